@@ -1,0 +1,9 @@
+//! Laws over the definitions alone. A caller calls one to have its clause at hand.
+ghost use Rattle.dc_core.specs.Outcome.{IsRun};
+ghost use Rattle.dc_goto.specs.Machine.{goto_run};
+ghost use Rattle.dc_goto.specs.declared.program.GotoProgram.{GotoProgram};
+
+/// More steps go on with a machine's run, and one that has ended stays as it is.
+pub fn machine_goes_on()
+    ensures { (p : GotoProgram) → IsRun (goto_run p) }
+{}
