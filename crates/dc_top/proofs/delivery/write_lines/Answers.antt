@@ -1,0 +1,14 @@
+use Rattle.std.proofs.Common.{arith, subst}
+use Rattle.dc_outside.specs.Counts.{Rose}
+use Rattle.dc_outside.specs.Sink.{AddsPrefix}
+use Rattle.dc_top.proofs.Printed.{cut_at}
+use Rattle.dc_top.proofs.delivery.write_lines.Goals as goal
+
+pub returns-in-Err-clause-err : goal.returns-in-Err-clause-err
+returns-in-Err-clause-err g c =
+    let cut = cut_at c.args.lines.now c.loop-line.line-index c.line-item.result (omega arith) c.line-item.is in
+    record {
+      fault = subst (λ n. Rose n (g.S.Sink.faults c.write_all.new.sink)) c.loop-line.invariant.1 c.in-Err.ensures.fault;
+      prefix = c.prefix_behind.ensures _ (g.S.Sink.written c.loop-line.sink) (g.S.Sink.written c.write_all.new.sink) _ c.line-item.result cut.0 _ cut.1 c.loop-line.invariant.0
+          (subst (AddsPrefix (g.S.Sink.written c.loop-line.sink) (g.S.Sink.written c.write_all.new.sink)) c.as_slice.ensures c.in-Err.ensures.prefix);
+    }

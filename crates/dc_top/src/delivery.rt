@@ -1,0 +1,83 @@
+// Answers that are written to the two sinks.
+ghost use Rattle.std.specs.Prelude.{◌≡◌, ◌≢◌, [], OnErr, OnOk, flat_map};
+ghost use Rattle.dc_top.specs.Answers.{output_of, status_of};
+ghost use Rattle.dc_top.specs.Delivery.{Complains, Delivers, Failed, Says, Took, sunk};
+
+use crate::answer::Answer;
+use crate::lines::Lines;
+use dc_outside::laws::{adds_nothing, adds_twice, prefix_behind};
+use dc_outside::{Sink, SinkFault, write_all};
+use sqlite_items::Items;
+
+// Writes the lines, each as one piece.
+fn write_lines<S: Sink>(sink: &mut S, lines: &[Items<u8>]) -> Result<(), SinkFault>
+    ensures ok { OnOk result (Took (sunk (S.written sink.old) (S.written sink.new) (S.faults sink.old) (S.faults sink.new)) (flat_map (λ line. line) lines.now)) }
+    ensures err { OnErr result (Failed (sunk (S.written sink.old) (S.written sink.new) (S.faults sink.old) (S.faults sink.new)) (flat_map (λ line. line) lines.now)) }
+{
+    adds_nothing();
+    adds_twice();
+    prefix_behind();
+    for line in lines {
+        if let Err(fault) = write_all(sink, line.as_slice()) {
+            return Err(fault);
+        }
+    }
+    Ok(())
+}
+
+/// Writes a line that goes with a status, and gives the status, or 7 where the sink failed.
+pub fn complain<E: Sink>(line: &[u8], status: u8, err: &mut E) -> u8
+    ensures { Complains status line.now result (sunk (E.written err.old) (E.written err.new) (E.faults err.old) (E.faults err.new)) }
+{
+    match write_all(err, line) {
+        Ok(()) => status,
+        Err(_) => 7,
+    }
+}
+
+/// Writes a text as one piece and gives 0, or 7 and a line to the second sink where the first failed.
+pub fn say<O: Sink, E: Sink>(text: &[u8], out: &mut O, err: &mut E) -> u8
+    ensures { Says text.now result (sunk (O.written out.old) (O.written out.new) (O.faults out.old) (O.faults out.new))
+        (sunk (E.written err.old) (E.written err.new) (E.faults err.old) (E.faults err.new)) }
+{
+    adds_nothing();
+    match write_all(out, text) {
+        Ok(()) => 0,
+        Err(_) => complain(b"dcc: write fault\n", 7, err),
+    }
+}
+
+// Writes the text, and a line of its own where that fails.
+fn give_text<O: Sink, E: Sink>(answer: &Answer, lines: &Lines, out: &mut O, err: &mut E) -> u8
+    requires { answer.now ≡ Answer.Text lines.now }
+    ensures { Delivers answer.now result (sunk (O.written out.old) (O.written out.new) (O.faults out.old) (O.faults out.new))
+        (sunk (E.written err.old) (E.written err.new) (E.faults err.old) (E.faults err.new)) }
+{
+    adds_nothing();
+    match write_lines(out, lines.as_slice()) {
+        Ok(()) => 0,
+        Err(_) => complain(b"dcc: write fault\n", 7, err),
+    }
+}
+
+// Writes the line of an answer that has no text.
+fn give_line<O: Sink, E: Sink>(answer: &Answer, out: &mut O, err: &mut E) -> u8
+    requires silent { output_of answer.now ≡ [] }
+    requires no_text { status_of answer.now ≢ 0 }
+    ensures { Delivers answer.now result (sunk (O.written out.old) (O.written out.new) (O.faults out.old) (O.faults out.new))
+        (sunk (E.written err.old) (E.written err.new) (E.faults err.old) (E.faults err.new)) }
+{
+    adds_nothing();
+    complain(answer.line(), answer.status(), err)
+}
+
+/// Writes the answer, a text to the first sink and a line to the second, and gives the status.
+pub fn deliver<O: Sink, E: Sink>(answer: &Answer, out: &mut O, err: &mut E) -> u8
+    ensures { Delivers answer.now result (sunk (O.written out.old) (O.written out.new) (O.faults out.old) (O.faults out.new))
+        (sunk (E.written err.old) (E.written err.new) (E.faults err.old) (E.faults err.new)) }
+{
+    match answer {
+        Answer::Text(lines) => give_text(answer, lines, out, err),
+        _ => give_line(answer, out, err),
+    }
+}
