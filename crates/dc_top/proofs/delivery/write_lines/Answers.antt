@@ -1,4 +1,5 @@
-use Rattle.std.proofs.Common.{arith, subst}
+use Rattle.std.proofs.Common.{arith, subst, take}
+use Rattle.std.specs.Prelude.{flat_map}
 use Rattle.dc_outside.specs.Counts.{Rose}
 use Rattle.dc_outside.specs.Sink.{AddsPrefix}
 use Rattle.dc_top.proofs.Printed.{cut_at}
@@ -9,6 +10,7 @@ returns-in-Err-clause-err g c =
     let cut = cut_at c.args.lines.now c.loop-line.line-index c.line-item.result (omega arith) c.line-item.is in
     record {
       fault = subst (λ n. Rose n (g.S.Sink.faults c.write_all.new.sink)) c.loop-line.invariant.1 c.in-Err.ensures.fault;
-      prefix = c.prefix_behind.ensures _ (g.S.Sink.written c.loop-line.sink) (g.S.Sink.written c.write_all.new.sink) _ c.line-item.result cut.0 _ cut.1 c.loop-line.invariant.0
+      prefix = c.prefix_behind.ensures (g.S.Sink.written c.args.sink.now) (g.S.Sink.written c.loop-line.sink) (g.S.Sink.written c.write_all.new.sink)
+          (flat_map (λ line. line) (take c.loop-line.line-index c.args.lines.now)) c.line-item.result cut.0 (flat_map (λ line. line) c.args.lines.now) cut.1 c.loop-line.invariant.0
           (subst (AddsPrefix (g.S.Sink.written c.loop-line.sink) (g.S.Sink.written c.write_all.new.sink)) c.as_slice.ensures c.in-Err.ensures.prefix);
     }
