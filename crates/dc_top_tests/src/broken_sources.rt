@@ -42,9 +42,7 @@ fn a_strange_byte(rt: HostRuntime) -> Result<(), Fail> {
 // A front, and spaces behind it up to a length.
 fn padded(alloc: Global, front: &[u8], len: usize) -> Result<Vec<u8>, AllocError> {
     let mut bytes = Vec::from_slice(alloc, front)?;
-    while bytes.len() < len {
-        bytes.push(b' ')?;
-    }
+    bytes.resize(len, b' ')?;
     Ok(bytes)
 }
 
