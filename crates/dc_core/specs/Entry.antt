@@ -1,42 +1,52 @@
--- The memory before anything of a program runs.
-use Rattle.std.specs.Prelude.{ℕ, zero, suc, ◌-◌, List, [], ◌∷◌, ◌++◌, length, Some}
-use Rattle.dc_core.specs.Choices.{Drawn, ◌>>=◌, draw, draw_bytes}
-use Rattle.dc_core.specs.Memory.{Kind, Object, Static, Heap, Stack, dead, holding}
+-- The memory and the arguments before anything of a program runs.
+use Rattle.std.specs.Prelude.{ℕ, zero, suc, ◌-◌, ℤ, List, [], ◌∷◌, ◌++◌, length, map}
+use Rattle.dc_core.specs.declared.number.NumKind.TheVariants.{S32}
+use Rattle.dc_core.specs.Event.{Create}
+use Rattle.dc_core.specs.Choices.{Draws, ◌>>=◌, give, tell, draw, draw_bytes, draw_value}
+use Rattle.dc_core.specs.Memory.{ObjKind, Object, Memory, Static, Heap, Stack, dead, holding, function_object, object_limit, size_limit}
+use Rattle.dc_core.specs.Program.{Program}
 
 -- file-scope variables of these sizes, each byte drawn
-abbrev pub static_objects : List ℕ → List ℕ → Drawn (List Object)
-static_objects [] choices = Some ([], choices)
-static_objects (size ∷ sizes) choices = do
-  bytes ← draw_bytes size choices
-  objects ← static_objects sizes bytes.1
-  Some (holding Static bytes.0 ∷ objects.0, objects.1)
+abbrev pub static_objects : List ℕ → Draws Memory
+static_objects [] = give []
+static_objects (size ∷ sizes) =
+    draw_bytes size >>= λ bytes. static_objects sizes >>= λ objects. give (holding Static bytes ∷ objects)
 
--- a live object: its size is drawn, and each of its bytes
-abbrev pub live_object : Kind → List ℕ → Drawn Object
-live_object kind choices = do
-  size ← draw 16777217 choices
-  bytes ← draw_bytes size.0 size.1
-  Some (holding kind bytes.0, bytes.1)
+-- a live object of this number: its size is drawn, then it is created, then each of its bytes is drawn
+abbrev pub live_object : ℕ → ObjKind → Draws Object
+live_object number kind =
+    draw (suc size_limit) >>= λ size. tell (Create number) (draw_bytes size >>= λ bytes. give (holding kind bytes))
 
--- an outside object, by the number that was drawn for it
-abbrev pub outside_object : ℕ → List ℕ → Drawn Object
-outside_object zero choices = Some (dead Heap, choices)
-outside_object (suc zero) choices = Some (dead Stack, choices)
-outside_object (suc (suc zero)) choices = live_object Heap choices
-outside_object (suc (suc (suc k))) choices = live_object Stack choices
+abbrev pub dead_object : ℕ → ObjKind → Draws Object
+dead_object number kind = tell (Create number) (give (dead kind))
 
--- that many outside objects, each of one of so many sorts
-abbrev pub outside_objects : ℕ → ℕ → List ℕ → Drawn (List Object)
-outside_objects sorts zero choices = Some ([], choices)
-outside_objects sorts (suc n) choices = do
-  sort ← draw sorts choices
-  object ← outside_object sort.0 sort.1
-  objects ← outside_objects sorts n object.1
-  Some (object.0 ∷ objects.0, objects.1)
+-- an object of this number, of the sort that was drawn for it
+abbrev pub outside_object : ℕ → ℕ → Draws Object
+outside_object number zero = dead_object number Heap
+outside_object number (suc zero) = dead_object number Stack
+outside_object number (suc (suc zero)) = live_object number Heap
+outside_object number (suc (suc (suc k))) = live_object number Stack
 
--- the memory with new objects behind it
-unfoldable pub with_outside : ℕ → List Object → List ℕ → Drawn (List Object)
-with_outside sorts memory choices = do
-  count ← draw (65536 - length memory) choices
-  objects ← outside_objects sorts count.0 count.1
-  Some (memory ++ objects.0, objects.1)
+-- that many objects from this number on, each of one of four sorts
+abbrev pub outside_objects : ℕ → ℕ → Draws Memory
+outside_objects number zero = give []
+outside_objects number (suc n) =
+    draw 4 >>= λ sort. outside_object number sort >>= λ object. outside_objects (suc number) n >>= λ objects. give (object ∷ objects)
+
+-- the memory with outside objects behind it; their count is drawn first
+unfoldable pub with_outside : Memory → Draws Memory
+with_outside memory =
+    draw (suc object_limit - length memory) >>= λ count. outside_objects (suc (length memory)) count >>= λ objects. give (memory ++ objects)
+
+-- the sizes of the variables of file scope
+abbrev pub static_sizes : Program → List ℕ
+static_sizes p = map (λ name. 4) p.statics
+
+-- the memory at entry: the function, the variables, the outside objects
+abbrev pub entry_memory : Program → Draws Memory
+entry_memory p = static_objects (static_sizes p) >>= λ statics. with_outside (function_object ∷ statics)
+
+-- that many int arguments
+abbrev pub draw_arguments : ℕ → Draws (List ℤ)
+draw_arguments zero = give []
+draw_arguments (suc n) = draw_value S32 >>= λ value. draw_arguments n >>= λ values. give (value ∷ values)

@@ -1,13 +1,17 @@
-//! Names, the typed program, and what its runs are.
+//! Names, the typed program, expressions of the instruction text, and what the runs of a program are.
 #![tactic(auto)]
 
 pub mod laws;
 mod name;
+mod number;
 mod program;
 mod reserved;
+mod term;
 mod word;
 
 pub use name::Name;
-pub use program::Program;
+pub use number::{BinOp, NumKind};
+pub use program::{Contract, Expr, Function, Program, Stmt};
 pub use reserved::is_reserved_word;
+pub use term::Term;
 pub use word::{is_formed, is_letter_byte, is_word_byte};

@@ -1,13 +1,45 @@
-// A program of the form of source that is read so far.
-use crate::Name;
-use sqlite_items::Items;
+// The typed program. Variables and parameters are named by their numbers, from 0 in the order of their declarations.
+use crate::{BinOp, Name};
+use sqlite_items::{Boxed, Items};
 
-/// Int variables of file scope, and one function without parameters, result and clauses, with an empty body.
-#[derive(Debug, Drop)]
+/// An expression of type int.
+#[derive(Drop)]
+pub enum Expr {
+    Literal(i128),
+    Variable(u64),
+    Parameter(u64),
+    ReturnValue,
+    Binary(BinOp, Boxed<Expr>, Boxed<Expr>),
+}
+
+/// A statement: the assignment at a site, of the second expression's value to the place of the first, or a return.
+#[derive(Drop)]
+pub enum Stmt {
+    Assign(u64, Expr, Expr),
+    Return(Expr),
+}
+
+/// The clauses of a function: what must hold at a call, what holds at its return, and what may be written.
+#[derive(Drop)]
+pub struct Contract {
+    pub requires_: Items<Expr>,
+    pub ensures_: Items<Expr>,
+    pub assigns: Items<Expr>,
+}
+
+/// A function that takes that many ints, and gives an int or nothing.
+#[derive(Drop)]
+pub struct Function {
+    pub name: Name,
+    pub gives_int: bool,
+    pub params: u64,
+    pub contract: Contract,
+    pub body: Items<Stmt>,
+}
+
+/// Int variables of file scope, and a function.
+#[derive(Drop)]
 pub struct Program {
-    /// The variables' names, in their order.
     pub statics: Items<Name>,
-
-    /// The function's name.
-    pub function: Name,
+    pub function: Function,
 }

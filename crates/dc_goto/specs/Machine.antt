@@ -1,120 +1,331 @@
 -- What the machine does with a goto program.
-use Rattle.std.specs.Prelude.{ℕ, zero, suc, ◌+◌, ◌-◌, List, [], ◌∷◌, ◌++◌, length, map, take, drop, Option, None, Some, slice_get, nat_eq, if◌then◌else◌, codes, replicate}
+use Rattle.std.specs.Prelude.{ℕ, zero, suc, ◌+◌, ◌-◌, ℤ, pos, Bool, true, false, ◌&&◌, not, nat_lt, List, [], ◌∷◌, ◌++◌, length, map, take, drop, replicate, Option, None, Some, slice_get, slice_set, nat_eq, if◌then◌else◌, codes}
+use Rattle.std.specs.Option.{option_map}
 use Rattle.std.specs.Cmp.Lexicographic.{pointwise}
-use Rattle.dc_core.specs.Choices.{Drawn}
-use Rattle.dc_core.specs.Memory.{Object, Static, function_object, holding}
+use Rattle.dc_core.specs.declared.number.NumKind.{NumKind}
+use Rattle.dc_core.specs.declared.number.NumKind.TheVariants.{U64}
+use Rattle.dc_core.specs.declared.number.BinOp.{BinOp}
+use Rattle.dc_core.specs.Number.{size_of, bits, converted, computed}
+use Rattle.dc_core.specs.Event.{Event, Create, Write, End}
+use Rattle.dc_core.specs.Event as end
+use Rattle.dc_core.specs.Memory.{Memory, Static, function_object, holding, start_of, object_of, offset_of, is_inside, load, store}
+use Rattle.dc_core.specs.Choices.{Drawn, Drew, Dry, draw_value}
+use Rattle.dc_core.specs.World.{World, is_full, next_object, with_local, left, kill_events}
 use Rattle.dc_core.specs.Entry.{static_objects, with_outside}
-use Rattle.dc_core.specs.Outcome.{Outcome, End, Returned, ChoicesEnded, NoBody, Cut}
-use Rattle.dc_goto.specs.declared.program.Instr.{Instr}
-use Rattle.dc_goto.specs.declared.program.Instr.TheVariants.{Statics, OutsideObjects, Push, Call, Pop, Return}
-use Rattle.dc_goto.specs.declared.program.Body.{Body}
-use Rattle.dc_goto.specs.declared.program.GotoProgram.{GotoProgram}
+use Rattle.dc_core.specs.Contract.{holds, WriteSet, new_set, with_ranges, denoted, allowed}
+use Rattle.dc_core.specs.Run.{Note, Did, checked, seen}
+use Rattle.dc_core.specs.Outcome.{Outcome}
+use Rattle.dc_core.specs.Term.{Term, Constant, Register, Object as ObjectStart, Load, Binary}
+use Rattle.dc_goto.specs.Program.{Instr, Set, Store, Init, LocalZero, Covers, Call, Return, Trap, Statics, OutsideObjects, Draw, Seen, Require, Push, Range, Check, Pop, Sig, Body, GotoProgram}
 
--- a running body: its code, and the place of its next instruction
-pub record Frame : Type 0 where
-  pub code : List Instr
-  pub place : ℕ
+-- Values --------------------------------------------------------------------------------------------------------
 
-pub record State : Type 0 where
-  pub memory : List Object
-  pub frames : List Frame
-  pub marks : List ℕ
-  pub choices : List ℕ
-  pub names : List (List ℕ)
-  pub end : Option End
+-- registers hold a number or none
+abbrev pub Registers : Type 0
+Registers = List (Option ℤ)
 
--- the code of a name, where there is one
-abbrev pub code_of : List Body → List ℕ → Option (List Instr)
-code_of [] name = None
-code_of (body ∷ bodies) name = if pointwise nat_eq body.name name then Some body.code else code_of bodies name
+abbrev pub register_value : Option (Option ℤ) → Option ℤ
+register_value None = None
+register_value (Some held) = held
 
-abbrev pub ended : State → End → State
-ended s end = record s { end = Some end }
+-- a number as a pointer or a length
+abbrev pub as_natural : ℤ → ℕ
+as_natural z = bits U64 z
 
--- the frames with the innermost one past its instruction
-abbrev pub advanced : List Frame → List Frame
-advanced [] = []
-advanced (frame ∷ frames) = record frame { place = frame.place + 1 } ∷ frames
+abbrev pub load_from : NumKind → Memory → Option ℤ → Option ℤ
+load_from kind memory None = None
+load_from kind memory (Some z) = load kind (as_natural z) memory
 
-abbrev pub past : State → State
-past s = record s { frames = advanced s.frames }
+-- operands are converted to the operator's kind
+abbrev pub operated : BinOp → NumKind → Option ℤ → Option ℤ → Option ℤ
+operated op kind None b = None
+operated op kind (Some a) None = None
+operated op kind (Some a) (Some b) = computed op kind (converted kind a) (converted kind b)
 
--- goes on with what was drawn, or ends
-abbrev pub with_memory : State → Drawn (List Object) → State
-with_memory s None = record s { choices = []; end = Some ChoicesEnded }
-with_memory s (Some (memory, choices)) = record (past s) { memory = memory; choices = choices }
+abbrev pub term_value : Registers → Memory → Term → Option ℤ
+term_value regs memory (Constant kind z) = Some z
+term_value regs memory (Register r) = register_value (slice_get regs r)
+term_value regs memory (ObjectStart n) = Some (pos (start_of n))
+term_value regs memory (Load kind a) = load_from kind memory (term_value regs memory a)
+term_value regs memory (Binary op kind a b) = operated op kind (term_value regs memory a) (term_value regs memory b)
+
+abbrev pub natural_value : Registers → Memory → Term → Option ℕ
+natural_value regs memory e = option_map as_natural (term_value regs memory e)
+
+-- values of all, where each has one
+abbrev pub with_value : Option ℤ → Option (List ℤ) → Option (List ℤ)
+with_value None values = None
+with_value (Some v) None = None
+with_value (Some v) (Some values) = Some (v ∷ values)
+
+abbrev pub term_values : Registers → Memory → List Term → Option (List ℤ)
+term_values regs memory [] = Some []
+term_values regs memory (e ∷ terms) = with_value (term_value regs memory e) (term_values regs memory terms)
+
+-- Instructions --------------------------------------------------------------------------------------------------
+
+-- what an instruction reads and changes: registers, write sets (innermost first), seen objects, the world
+pub record Now : Type 0 where
+  pub regs : Registers
+  pub sets : List WriteSet
+  pub seen : List ℕ
+  pub world : World
+
+-- the next instruction is next; the run ends; a function is called, its result for a register; the body is left
+pub data Then : Type 0 where
+  Next : List Note → Now → Then
+  Ends : List Note → End → World → Then
+  Enters : Option ℕ → List ℕ → List ℤ → Then
+  Leaves : Option ℤ → Then
+
+-- a value, or the end as undefined in the running function
+abbrev pub given : {B : Type 0} → List ℕ → World → Option B → (B → Then) → Then
+given name w None go = Ends [] (end.Undefined name) w
+given name w (Some v) go = go v
+
+abbrev pub with_register : ℕ → ℤ → Now → Now
+with_register r v s = record s { regs = slice_set s.regs r (Some v) }
+
+abbrev pub with_memory : Memory → Now → Now
+with_memory memory s = record s { world = record s.world { memory = memory } }
+
+-- what was drawn, or the end of the choices
+abbrev pub drawn : {B : Type 0} → Drawn B → Now → (B → Now → Now) → Then
+drawn (Drew v rest events) s go =
+    Next (map Did events) (go v (record s { world = record s.world { choices = rest } }))
+drawn (Dry events) s go = Ends (map Did events) end.ChoicesEnded (record s.world { choices = [] })
 
 -- the variables' objects in the place of those that stand there
-abbrev pub with_statics : GotoProgram → List Object → Drawn (List Object) → Drawn (List Object)
-with_statics p memory None = None
-with_statics p memory (Some (statics, choices)) =
-    Some (take (length p.functions) memory ++ statics ++ drop (length p.functions + length p.statics) memory, choices)
+abbrev pub with_statics : GotoProgram → Memory → Memory → Memory
+with_statics p statics memory =
+    take (length p.functions) memory ++ (statics ++ drop (length p.functions + length p.statics) memory)
 
--- a call of a body
-abbrev pub entered : State → List ℕ → Option (List Instr) → State
-entered s name None = ended s (NoBody name)
-entered s name (Some code) = record s { frames = record { code = code; place = 0 } ∷ advanced s.frames }
+abbrev pub static_sizes : GotoProgram → List ℕ
+static_sizes p = map (λ v. v.size) p.statics
 
--- a return, which ends the run where it leaves the start
-abbrev pub left : State → List Frame → State
-left s [] = ended s Returned
-left s (frame ∷ []) = ended s Returned
-left s (frame ∷ caller ∷ frames) = record s { frames = caller ∷ frames }
+abbrev pub local_created : Bool → ℕ → ℕ → Now → Then
+local_created true r size s = Ends [] end.ObjectLimit s.world
+local_created false r size s =
+    Next (Did (Create (next_object s.world)) ∷ [])
+    (with_register r (pos (start_of (next_object s.world))) (record s { world = with_local (replicate size 0) s.world }))
 
--- one instruction
-abbrev pub act : GotoProgram → Instr → State → State
-act p Statics s = with_memory s (with_statics p s.memory (static_objects (map (λ v. v.size) p.statics) s.choices))
-act p OutsideObjects s = with_memory s (with_outside 4 s.memory s.choices)
-act p Push s = record (past s) { marks = length s.memory ∷ s.marks }
-act p (Call name) s = entered s name (code_of p.bodies name)
-act p Pop s = record (past s) { marks = drop 1 s.marks }
-act p Return s = left s s.frames
+-- a write of that length at a place is allowed by the innermost set; one that isn't inside a live object, or is empty,
+-- is none
+abbrev pub covered : List WriteSet → Memory → Option ℕ → Option ℕ → Bool
+covered sets memory None len = true
+covered sets memory (Some pointer) None = true
+covered [] memory (Some pointer) (Some len) = not (nat_lt 0 len && is_inside memory pointer len)
+covered (set ∷ sets) memory (Some pointer) (Some len) =
+    if nat_lt 0 len && is_inside memory pointer len then allowed set (object_of pointer) (offset_of pointer) len else true
 
-abbrev pub act_if : GotoProgram → Option Instr → State → State
-act_if p None s = s
-act_if p (Some instr) s = act p instr s
+abbrev pub required : Bool → Now → Then
+required true s = Next [] s
+required false s = Ends [] end.Blocked s.world
 
-abbrev pub instr_at : List Frame → Option Instr
-instr_at [] = None
-instr_at (frame ∷ frames) = slice_get frame.code frame.place
+-- ranges are added to the innermost set
+abbrev pub ranged : Now → ℕ → Bool → Option ℕ → Option ℕ → List WriteSet → List WriteSet
+ranged s tag test pointer len [] = []
+ranged s tag test pointer len (set ∷ sets) =
+    with_ranges (denoted tag s.world.memory test pointer len) set ∷ sets
 
--- one step, or none where the run has ended
-abbrev pub step_from : GotoProgram → State → Option End → State
-step_from p s None = act_if p (instr_at s.frames) s
-step_from p s (Some end) = s
+abbrev pub returned : List ℕ → Now → Option Term → Then
+returned name s None = Leaves None
+returned name s (Some e) = given name s.world (term_value s.regs s.world.memory e) (λ v. Leaves (Some v))
 
-abbrev pub step : GotoProgram → State → State
-step p s = step_from p s s.end
+-- one instruction of the function of this name
+abbrev pub act : GotoProgram → List ℕ → Instr → Now → Then
+act p name (Set r e) s =
+    given name s.world (term_value s.regs s.world.memory e) (λ v. Next [] (with_register r v s))
+act p name (Store kind a e) s =
+    given name s.world (natural_value s.regs s.world.memory a) (λ pointer.
+    given name s.world (term_value s.regs s.world.memory e) (λ v.
+    given name s.world (store kind pointer (converted kind v) s.world.memory) (λ memory.
+    Next (Did (Write (object_of pointer) (offset_of pointer) (size_of kind)) ∷ []) (with_memory memory s))))
+act p name (Init kind a e) s =
+    given name s.world (natural_value s.regs s.world.memory a) (λ pointer.
+    given name s.world (term_value s.regs s.world.memory e) (λ v.
+    given name s.world (store kind pointer (converted kind v) s.world.memory) (λ memory. Next [] (with_memory memory s))))
+act p name (LocalZero r size) s = local_created (is_full s.world) r size s
+act p name (Covers check a n) s =
+    Next
+    (checked check
+    (covered s.sets s.world.memory (natural_value s.regs s.world.memory a) (natural_value s.regs s.world.memory n)))
+    s
+act p name (Call r function arguments) s =
+    given name s.world (term_values s.regs s.world.memory arguments) (λ values. Enters r function values)
+act p name (Return value) s = returned name s value
+act p name Trap s = Ends [] (end.Undefined name) s.world
+act p name Statics s =
+    drawn (static_objects (static_sizes p) s.world.choices) s
+    (λ statics t. with_memory (with_statics p statics t.world.memory) t)
+act p name OutsideObjects s =
+    drawn (with_outside s.world.memory s.world.choices) s (λ memory t. with_memory memory t)
+act p name (Draw r kind) s = drawn (draw_value kind s.world.choices) s (λ v t. with_register r v t)
+act p name Seen s = Next [] (record s { seen = [] })
+act p name (Require e) s = required (holds (term_value s.regs s.world.memory e)) s
+act p name Push s = Next [] (record s { sets = new_set s.world.memory ∷ s.sets })
+act p name (Range tag e a n) s =
+    Next []
+    (record s {
+      sets =
+          ranged s tag (holds (term_value s.regs s.world.memory e)) (natural_value s.regs s.world.memory a)
+          (natural_value s.regs s.world.memory n) s.sets;
+    })
+act p name (Check check e) s = Next (checked check (holds (term_value s.regs s.world.memory e))) s
+act p name Pop s = Next [] (record s { sets = drop 1 s.sets })
 
--- that many steps
-abbrev pub steps : GotoProgram → ℕ → State → State
-steps p zero s = s
-steps p (suc m) s = steps p m (step p s)
+-- The machine ---------------------------------------------------------------------------------------------------
 
--- the state before the first step
-abbrev pub initial_of : GotoProgram → List ℕ → Option (List Instr) → State
-initial_of p choices None = record { memory = []; frames = []; marks = []; choices = choices; names = []; end = Some (NoBody (codes ".start")) }
-initial_of p choices (Some code) =
+-- a caller: its name and code, the place behind its call, its registers and objects, and the register for the result
+pub record Frame : Type 0 where
+  pub name : List ℕ
+  pub code : List Instr
+  pub place : ℕ
+  pub regs : Registers
+  pub locals : List ℕ
+  pub result : Option ℕ
+
+-- the running body's name and code, the place of the next instruction, the callers (innermost first)
+pub record Machine : Type 0 where
+  pub name : List ℕ
+  pub code : List Instr
+  pub place : ℕ
+  pub frames : List Frame
+  pub now : Now
+
+-- a run that goes on, or has ended, with what was noted
+pub data Run : Type 0 where
+  Going : List Note → Machine → Run
+  Stopped : List Note → End → World → Run
+
+abbrev pub noted : List Note → Run → Run
+noted before (Going notes m) = Going (before ++ notes) m
+noted before (Stopped notes end w) = Stopped (before ++ notes) end w
+
+abbrev pub go_on : Run → (Machine → Run) → Run
+go_on (Going notes m) go = noted notes (go m)
+go_on (Stopped notes end w) go = Stopped notes end w
+
+-- the body of a name, where there is one
+abbrev pub body_of : List Body → List ℕ → Option Body
+body_of [] name = None
+body_of (body ∷ bodies) name = if pointwise nat_eq body.name name then Some body else body_of bodies name
+
+-- the object of a function: its number in the order of the functions, from this one on
+abbrev pub function_number : ℕ → List Sig → List ℕ → ℕ
+function_number n [] name = n
+function_number n (sig ∷ functions) name =
+    if pointwise nat_eq sig.name name then n else function_number (suc n) functions name
+
+-- arguments stand in the registers from 0 on, and the others are 0
+abbrev pub first_registers : Body → List ℤ → Registers
+first_registers body arguments = map Some arguments ++ replicate (body.regs - length arguments) (Some (pos 0))
+
+abbrev pub caller : Machine → Option ℕ → Frame
+caller m result =
     record {
-      memory = map (λ sig. function_object) p.functions ++ map (λ v. holding Static (replicate v.size 0)) p.statics;
-      frames = record { code = code; place = 0 } ∷ [];
-      marks = [];
-      choices = choices;
-      names = [];
-      end = None;
+      name = m.name;
+      code = m.code;
+      place = suc m.place;
+      regs = m.now.regs;
+      locals = m.now.world.locals;
+      result = result;
     }
 
-abbrev pub initial : GotoProgram → List ℕ → State
-initial p choices = initial_of p choices (code_of p.bodies (codes ".start"))
+-- the called body's first state, where there is a body
+abbrev pub entered_body : Machine → Option ℕ → List ℕ → List ℤ → Option Body → Run
+entered_body m result name arguments None = Stopped [] (end.NoBody name) m.now.world
+entered_body m result name arguments (Some body) =
+    Going []
+    (record {
+      name = name;
+      code = body.code;
+      place = 0;
+      frames = caller m result ∷ m.frames;
+      now =
+          record m.now {
+            regs = first_registers body arguments;
+            world = record m.now.world { locals = [] };
+          };
+    })
 
-abbrev pub end_of : Option End → End
-end_of None = Cut
-end_of (Some end) = end
+-- at most 1,024 calls are active
+unfoldable pub depth_limit : ℕ
+depth_limit = 1024
 
--- what is seen of a state of a run that began with these choices
-abbrev pub seen : List ℕ → State → Outcome
-seen choices s = record { names = s.names; end = end_of s.end; used = length choices - length s.choices; memory = s.memory }
+abbrev pub entered : GotoProgram → Machine → Option ℕ → List ℕ → List ℤ → Bool → Run
+entered p m result name arguments true =
+    noted (Did (end.Call (function_number 1 p.functions name)) ∷ [])
+    (entered_body m result name arguments (body_of p.bodies name))
+entered p m result name arguments false = Stopped [] end.DepthLimit m.now.world
+
+abbrev pub with_result : Option ℕ → Option ℤ → Registers → Registers
+with_result None value regs = regs
+with_result (Some r) None regs = regs
+with_result (Some r) (Some v) regs = slice_set regs r (Some v)
+
+-- back to the caller; the start has none
+abbrev pub left_body : Now → Option ℤ → List Frame → Run
+left_body s value [] = Stopped (map Did (kill_events s.world)) (end.Returned value) (left [] s.world)
+left_body s value (frame ∷ frames) =
+    Going (map Did (kill_events s.world ++ end.Return ∷ []))
+    (record {
+      name = frame.name;
+      code = frame.code;
+      place = frame.place;
+      frames = frames;
+      now = record s { regs = with_result frame.result value frame.regs; world = left frame.locals s.world };
+    })
+
+abbrev pub proceed : GotoProgram → Machine → Then → Run
+proceed p m (Next notes s) = Going notes (record m { place = suc m.place; now = s })
+proceed p m (Ends notes end w) = Stopped notes end w
+proceed p m (Enters result name arguments) =
+    entered p m result name arguments (nat_lt (length m.frames) depth_limit)
+proceed p m (Leaves value) = left_body m.now value m.frames
+
+-- no instruction stands beyond the last
+abbrev pub step_at : GotoProgram → Machine → Option Instr → Run
+step_at p m None = Stopped [] (end.Undefined m.name) m.now.world
+step_at p m (Some i) = proceed p m (act p m.name i m.now)
+
+abbrev pub step : GotoProgram → Machine → Run
+step p m = step_at p m (slice_get m.code m.place)
+
+-- at most that many steps
+abbrev pub steps : GotoProgram → ℕ → Machine → Run
+steps p zero m = Going [] m
+steps p (suc n) m = go_on (step p m) (steps p n)
+
+-- The run of a program --------------------------------------------------------------------------------------------
+
+-- functions, and variables of zero bytes
+abbrev pub first_memory : GotoProgram → Memory
+first_memory p =
+    map (λ sig. function_object) p.functions ++ map (λ v. holding Static (replicate v.size 0)) p.statics
+
+abbrev pub first_world : GotoProgram → List ℕ → World
+first_world p choices = record { memory = first_memory p; choices = choices; locals = [] }
+
+abbrev pub start_at : GotoProgram → List ℕ → Option Body → Run
+start_at p choices None = Stopped [] (end.NoBody (codes ".start")) (first_world p choices)
+start_at p choices (Some body) =
+    Going []
+    (record {
+      name = codes ".start";
+      code = body.code;
+      place = 0;
+      frames = [];
+      now = record { regs = first_registers body []; sets = []; seen = []; world = first_world p choices };
+    })
+
+abbrev pub start : GotoProgram → List ℕ → Run
+start p choices = start_at p choices (body_of p.bodies (codes ".start"))
+
+abbrev pub seen_run : List ℕ → Run → Outcome
+seen_run choices (Going notes m) = seen choices notes end.Cut m.now.world
+seen_run choices (Stopped notes end w) = seen choices notes end w
 
 -- the run of at most m steps
 abbrev pub goto_run : GotoProgram → ℕ → List ℕ → Outcome
-goto_run p m choices = seen choices (steps p m (initial p choices))
+goto_run p m choices = seen_run choices (go_on (start p choices) (steps p m))

@@ -1,61 +1,72 @@
 // A goto program.
-use dc_core::Name;
+use dc_core::{Name, NumKind, Term};
 use sqlite_items::Items;
 
-/// One instruction.
-#[derive(Debug, Drop)]
+/// One instruction. Registers are named by their numbers, and an address, a length or a value is an expression.
+#[derive(Drop)]
 pub enum Instr {
-    /// Draws the bytes of each variable of file scope, in their order.
+    /// The register takes the value; without one the run is undefined.
+    Set(u64, Term),
+    /// Writes a value of the kind at an address.
+    Store(NumKind, Term, Term),
+    /// Writes likewise, and is no event.
+    Init(NumKind, Term, Term),
+    /// A stack object of that many zero bytes, its start in the register.
+    LocalZero(u64, u64),
+    /// Fails the name where a write of that length at the address isn't allowed.
+    Covers(Name, Term, Term),
+    /// A call of a function with arguments, its result into a register if one is given.
+    Call(Option<u64>, Name, Items<Term>),
+    /// Back to the caller, with a value or none.
+    Return(Option<Term>),
+    /// The run is undefined.
+    Trap,
+    /// Draws the bytes of all variables of file scope.
     Statics,
-
-    /// Draws how many objects from outside there are, and each of them.
+    /// Draws the outside objects.
     OutsideObjects,
-
-    /// Opens a set of writes.
+    /// Draws a value of a kind into the register.
+    Draw(u64, NumKind),
+    /// Empties the list of seen objects.
+    Seen,
+    /// Blocks the run where the value is 0 or there is none.
+    Require(Term),
+    /// A new innermost write set.
     Push,
-
-    /// Calls the function of this name.
-    Call(Name),
-
-    /// Closes the innermost set of writes.
+    /// Adds a range with a tag to the innermost set: a condition, an address, a length.
+    Range(u64, Term, Term, Term),
+    /// Fails the name where the value is 0 or there is none.
+    Check(Name, Term),
+    /// Away with the innermost set.
     Pop,
-
-    /// Leaves the body, and ends the run where it is the start's.
-    Return,
 }
 
-/// A function by its name. It takes nothing and gives nothing.
-#[derive(Debug, Drop)]
+/// A function: its name, the kind of its result if it has one, and the kinds of its parameters.
+#[derive(Drop)]
 pub struct Sig {
     pub name: Name,
+    pub result: Option<NumKind>,
+    pub params: Items<NumKind>,
 }
 
-/// A variable of file scope.
-#[derive(Debug, Drop)]
+/// A variable of file scope, and its size in bytes.
+#[derive(Drop)]
 pub struct StaticVar {
     pub name: Name,
-
-    /// Its size in bytes.
     pub size: u64,
 }
 
-/// The code of a function, or of the start.
-#[derive(Debug, Drop)]
+/// The code of a function, or of the start: the numbers of its parameters and of its registers, and its instructions.
+#[derive(Drop)]
 pub struct Body {
-    /// The function's name, or `.start`.
     pub name: Name,
-
-    /// How many parameters it takes.
     pub params: u64,
-
-    /// How many registers it has, the parameters among them.
     pub regs: u64,
-
     pub code: Items<Instr>,
 }
 
 /// Functions, variables, and the bodies, the start's last.
-#[derive(Debug, Drop)]
+#[derive(Drop)]
 pub struct GotoProgram {
     pub functions: Items<Sig>,
     pub statics: Items<StaticVar>,

@@ -1,9 +1,9 @@
 -- What follows from an answer that is right and delivered.
 use Rattle.std.proofs.Common.{◌≡◌, ℕ, ◌<◌, ◌≤◌, ◌⊎◌, List, [], length, Option, None, Some, refl, sym, ap, subst, ◌∙◌, arith, inl, inr}
 use Rattle.std.specs.Prelude.{IfSome, flat_map, ◌≢◌}
-use Rattle.dc_core.specs.declared.program.Program.{Program}
+use Rattle.dc_core.specs.Program.{Program}
 use Rattle.dc_outside.specs.Counts.{Rose}
-use Rattle.dc_top.proofs.Parsed.{one_program}
+use Rattle.dc_top.proofs.Sourced.{one_program}
 use Rattle.dc_top.proofs.Row.{same_name}
 use Rattle.dc_top.specs.Form.{IsForm}
 use Rattle.dc_top.specs.Table.{HasRow, OfFile, OfSource, source_limit}
@@ -27,8 +27,8 @@ each : (source : Option (Option (List ℕ))) (P Q : List ℕ → Type 0) → ((b
 each None P Q f h = tt
 each (Some file) P Q f h = each_file file P Q f h
 
-not_both : (bytes name : List ℕ) (p : Program) → IsForm bytes p → p.function ≡ name → HasOther bytes name → ⊥
-not_both bytes name p form e h = h.other (ap (λ p. p.function) (one_program bytes h.program p h.form form) ∙ e)
+not_both : (bytes name : List ℕ) (p : Program) → IsForm bytes p → p.function.name ≡ name → HasOther bytes name → ⊥
+not_both bytes name p form e h = h.other (ap (λ p. p.function.name) (one_program bytes h.program p h.form form) ∙ e)
 
 module _ (words : List (List ℕ)) (source : Option (Option (List ℕ))) (reads_before reads_now : ℕ) (out err : Sunk) (status : ℕ) (a : Answered words source reads_before reads_now out err status) where
   -- a status other than 7 is the answer's own
@@ -123,8 +123,8 @@ module _ (words : List (List ℕ)) (source : Option (Option (List ℕ))) (reads_
   cut_text Memory why o = let e = o.text in absurd (omega (arith, e))
   cut_text TooLong why o = let e = o.text in absurd (omega (arith, e))
 
-  unsaid : IsErrFault a.answer status out err → IsUnsaid words source out err
-  unsaid f = record { fault = f.line.fault; silent = f.output; answer = a.answer; no_text = f.no_text; why = a.why; line = f.line.prefix }
+  unsaid : IsErrFault a.answer status out err → IsUnsaid words source reads_before reads_now out err
+  unsaid f = record { fault = f.line.fault; silent = f.output; answer = a.answer; no_text = f.no_text; why = a.why; read = a.read; kept = a.kept; line = f.line.prefix }
 
   not_seven : (answer : Answer) → status_of answer ≢ 7
   not_seven (Text lines) e = omega arith
@@ -135,7 +135,7 @@ module _ (words : List (List ℕ)) (source : Option (Option (List ℕ))) (reads_
   not_seven Memory e = omega arith
   not_seven TooLong e = omega arith
 
-  pub cut_off : status ≡ 7 → IsCutOff words source out err ⊎ IsUnsaid words source out err
+  pub cut_off : status ≡ 7 → IsCutOff words source out err ⊎ IsUnsaid words source reads_before reads_now out err
   cut_off e =
       elim a.how [
         | inl w ↦ absurd (not_seven a.answer (sym w.status_is ∙ e))

@@ -2,14 +2,17 @@
 use Rattle.std.proofs.Common.{◌≡◌, ℕ, ◌<◌, true, List, [], ◌∷◌, ◌++◌, length, map, Option, None, Some, refl, sym, ap, subst, ◌∙◌}
 use Rattle.std.specs.Prelude.{flat_map, IfSome}
 use Rattle.std.specs.Cmp.Lexicographic.{bytes_decides}
-use Rattle.dc_core.specs.declared.program.Program.{Program}
+use Rattle.dc_core.specs.Program.{Program}
 use Rattle.dc_core.specs.Words.{same}
 use Rattle.dc_goto.specs.Text.{line_bytes, lines_of}
 use Rattle.dc_outside.specs.Shelf.{Files, IsLonger, named_file}
 use Rattle.dc_top.specs.Form.{IsForm}
-use Rattle.dc_top.specs.Goto.{goto_of}
+use Rattle.dc_top.specs.Lowering.{goto_of}
 use Rattle.dc_top.specs.Table.{IsRow, HasRow, OfFile, source_of, source_limit}
-use Rattle.dc_top.specs.Exactness.{IsExact, Instruments}
+use Rattle.dc_core.specs.Outcome.{IsExact}
+use Rattle.dc_core.specs.Run.{contract_run}
+use Rattle.dc_goto.specs.Machine.{goto_run}
+use Rattle.dc_top.specs.Exactness.{Instruments}
 use Rattle.dc_top.specs.Answers.{RowSays, SaysOf, Justifies}
 use Rattle.dc_top.specs.declared.answer.Answer.{Answer}
 use Rattle.dc_top.specs.declared.answer.Answer.TheVariants.{Text, Usage, NoForm, NotFunction, ReadFault, Memory, TooLong}
@@ -18,13 +21,13 @@ flat_map-map : (xs : List (List ℕ)) → flat_map (λ line. line) (map line_byt
 flat_map-map [] = refl
 flat_map-map (x ∷ xs) = ap (λ ys. line_bytes x ++ ys) (flat_map-map xs)
 
-pub instruments : (bytes name : List ℕ) (p : Program) (lines : List (List ℕ)) → IsForm bytes p → same p.function name ≡ true → lines ≡ map line_bytes (lines_of (goto_of p)) → IsExact p (goto_of p) → Instruments bytes name (flat_map (λ line. line) lines)
+pub instruments : (bytes name : List ℕ) (p : Program) (lines : List (List ℕ)) → IsForm bytes p → same p.function.name name ≡ true → lines ≡ map line_bytes (lines_of (goto_of p)) → IsExact (contract_run p) (goto_run (goto_of p)) → Instruments bytes name (flat_map (λ line. line) lines)
 instruments bytes name p lines f e l exact =
     record {
       program = p;
       goto_program = goto_of p;
       form = f;
-      enforced = (bytes_decides p.function name).0 e;
+      enforced = (bytes_decides p.function.name name).0 e;
       spelt = ap (flat_map (λ line. line)) l ∙ flat_map-map (lines_of (goto_of p));
       exact = exact;
     }

@@ -1,23 +1,20 @@
 -- The headline: the printed program does what the source does.
 use Rattle.std.specs.Prelude.{◌≡◌, ℕ, List}
-use Rattle.dc_core.specs.declared.program.Program.{Program}
-use Rattle.dc_core.specs.Outcome.{SameRuns}
+use Rattle.dc_core.specs.Program.{Program}
+use Rattle.dc_core.specs.Outcome.{IsExact}
 use Rattle.dc_core.specs.Run.{contract_run}
-use Rattle.dc_goto.specs.declared.program.GotoProgram.{GotoProgram}
+use Rattle.dc_goto.specs.Program.{GotoProgram}
 use Rattle.dc_goto.specs.Machine.{goto_run}
 use Rattle.dc_goto.specs.Text.{IsSpelt}
 use Rattle.dc_top.specs.Form.{IsForm}
-
--- on each list of choices the goto program fails exactly the clauses that the contract run breaks, in order, with the
--- same end, the same count of choices and, where it returns, the same memory
-abbrev pub IsExact : Program → GotoProgram → Type 0
-IsExact program goto_program = SameRuns (contract_run program) (goto_run goto_program)
 
 -- the text is that of a goto program that is exact for the source's program, whose function has this name
 pub record Instruments (bytes name text : List ℕ) : Type 0 where
   pub program : Program
   pub goto_program : GotoProgram
   pub form : IsForm bytes program
-  pub enforced : program.function ≡ name
+  pub enforced : program.function.name ≡ name
   pub spelt : IsSpelt text goto_program
-  pub exact : IsExact program goto_program
+  -- on each list of choices the goto program fails exactly the clauses that the contract run breaks, in order, with the
+  -- same end, the same count of choices and, where it returns, the same memory
+  pub exact : IsExact (contract_run program) (goto_run goto_program)

@@ -1,6 +1,6 @@
 -- What the top call's clauses say.
 use Rattle.std.specs.Prelude.{◌≡◌, ◌≢◌, ℕ, ◌<◌, ◌≤◌, ◌⊎◌, List, [], length, Option, None, Some, if◌then◌else◌, ◌==◌}
-use Rattle.dc_core.specs.declared.program.Program.{Program}
+use Rattle.dc_core.specs.Program.{Program}
 use Rattle.dc_outside.specs.Counts.{Rose}
 use Rattle.dc_top.specs.Form.{IsForm}
 use Rattle.dc_top.specs.Table.{HasRow, OfSource, source_limit}
@@ -54,13 +54,16 @@ pub record IsCutOff (words : List (List ℕ)) (source : Option (Option (List ℕ
   pub text : OfSource source (λ bytes. (text : List ℕ) × Instruments bytes row.name text × GainedPrefix out text)
   pub line : IsSaid err write_fault_line
 
--- the second sink failed, and holds a prefix of the line of an answer that is right; the first was given nothing
-pub record IsUnsaid (words : List (List ℕ)) (source : Option (Option (List ℕ))) (out err : Sunk) : Type 0 where
+-- the second sink failed, and holds a prefix of the line of an answer that is right, as in Answered; the first was given
+-- nothing
+pub record IsUnsaid (words : List (List ℕ)) (source : Option (Option (List ℕ))) (reads_before reads_now : ℕ) (out err : Sunk) : Type 0 where
   pub fault : Faulted err
   pub silent : Took out []
   pub answer : Answer
   pub no_text : status_of answer ≢ 0
   pub why : Justifies words source answer
+  pub read : answer ≡ ReadFault → Rose reads_before reads_now
+  pub kept : (answer ≡ ReadFault → ⊥) → reads_now ≡ reads_before
   pub line : GainedPrefix err (line_of answer)
 
 -- this status, or 7 where the second sink failed
@@ -90,4 +93,4 @@ pub record IsAccepted (words : List (List ℕ)) (source : Option (Option (List �
   pub there : source ≡ Some (Some bytes)
   pub short : length bytes ≤ source_limit
   pub form : IsForm bytes program
-  pub enforced : program.function ≡ row.name
+  pub enforced : program.function.name ≡ row.name

@@ -1,10 +1,11 @@
 // From the words and the file to an answer.
 ghost use Rattle.std.specs.Prelude.{◌≡◌, ◌≤◌, ℕ, IfOk, length, map};
+ghost use Rattle.dc_core.specs.View.{program_view};
 ghost use Rattle.dc_goto.specs.Text.{line_bytes, lines_of};
 ghost use Rattle.dc_outside.specs.Counts.{Rose};
 ghost use Rattle.dc_top.specs.Answers.{Justifies, SaysOf, not_function_line};
 ghost use Rattle.dc_top.specs.Form.{IsForm};
-ghost use Rattle.dc_top.specs.Goto.{goto_of};
+ghost use Rattle.dc_top.specs.Lowering.{goto_of};
 ghost use Rattle.dc_top.specs.Table.{source_limit, source_of};
 
 use crate::answer::Answer;
@@ -24,7 +25,7 @@ const SOURCE_LIMIT: u64 = 1_048_576;
 
 // The text of a program.
 fn text(alloc: Global, p: &Program) -> Result<Lines, AllocError>
-    ensures { IfOk result (λ lines. lines ≡ map line_bytes (lines_of (goto_of p.now))) }
+    ensures { IfOk result (λ lines. lines ≡ map line_bytes (lines_of (goto_of (program_view p.now)))) }
 {
     let lowered = lowered(alloc, p)?;
     text_lines(alloc, &lowered)
@@ -42,12 +43,12 @@ fn not_function(alloc: Global, name: &Name) -> Result<Items<u8>, AllocError>
 
 // The answer to a program and a name.
 fn answer_program(alloc: Global, bytes: &[u8], p: &Program, name: &Name) -> Answer
-    requires form { IsForm bytes.now p.now }
+    requires form { IsForm bytes.now (program_view p.now) }
     requires short { length bytes.now ≤ source_limit }
     ensures { SaysOf bytes.now name.now result }
 {
     lowered_is_exact();
-    if p.function.is(name.as_slice()) {
+    if p.function.name.is(name.as_slice()) {
         match text(alloc, p) {
             Ok(lines) => Answer::Text(lines),
             Err(_) => Answer::Memory,

@@ -59,10 +59,9 @@ const USAGE: Wanted = Wanted {
 };
 
 // Sources that aren't of the form.
-const NO_FORM: [&str; 15] = [
+const NO_FORM: [&str; 14] = [
     POINTER_PARAMETER,
     "",
-    "void f(int x) {}",
     "int f(void) {}",
     "int f; void f(void) {}",
     "int a; int a; void f(void) {}",

@@ -1,18 +1,16 @@
 // Sources that are broken, and sources at the limit.
-use crate::harness::{INSTRUMENT, NO_FAULT, run};
+use crate::harness::{ENFORCE_SET, NO_FAULT, SET, run};
 use std::alloc::{AllocError, Global};
 use std::test::Fail;
 
-const SOURCE: &str = "int a;\nvoid f(void)\n{}";
-
 const LIMIT: usize = 1_048_576;
 
-// The source cut after each byte.
+// The source cut after each byte. Only the last one, a newline, may be missing.
 #[test]
 fn a_cut_source(rt: HostRuntime) -> Result<(), Fail> {
-    for cut in 0..=SOURCE.len() {
-        let outcome = run(rt.alloc(), INSTRUMENT, &SOURCE.as_bytes()[..cut], &NO_FAULT)?;
-        let wanted = if cut == SOURCE.len() { 0 } else { 3 };
+    for cut in 0..=SET.len() {
+        let outcome = run(rt.alloc(), ENFORCE_SET, &SET.as_bytes()[..cut], &NO_FAULT)?;
+        let wanted = if cut + 1 < SET.len() { 3 } else { 0 };
         assert_eq!(rt; outcome.status, wanted, "cut after {cut}");
     }
     Ok(())
@@ -22,12 +20,12 @@ fn a_cut_source(rt: HostRuntime) -> Result<(), Fail> {
 #[test]
 fn a_strange_byte(rt: HostRuntime) -> Result<(), Fail> {
     for strange in [0, 0x7f, 0xc3, 0xff] {
-        for place in 0..SOURCE.len() {
-            let mut bytes = Vec::from_slice(rt.alloc(), SOURCE.as_bytes())?;
+        for place in 0..SET.len() {
+            let mut bytes = Vec::from_slice(rt.alloc(), SET.as_bytes())?;
             if let Some(byte) = bytes.get_mut(place) {
                 *byte = strange;
             }
-            let outcome = run(rt.alloc(), INSTRUMENT, &bytes, &NO_FAULT)?;
+            let outcome = run(rt.alloc(), ENFORCE_SET, &bytes, &NO_FAULT)?;
             assert_eq!(rt; outcome.status, 3, "byte {strange} at {place}");
             assert_eq!(rt;
                 outcome.err.as_slice(),
@@ -52,11 +50,11 @@ fn a_long_source(rt: HostRuntime) -> Result<(), Fail> {
     for (front, len, wanted) in [
         ("", LIMIT, 3),
         ("", LIMIT + 1, 9),
-        (SOURCE, LIMIT, 0),
-        (SOURCE, LIMIT + 1, 9),
+        (SET, LIMIT, 0),
+        (SET, LIMIT + 1, 9),
     ] {
         let bytes = padded(rt.alloc(), front.as_bytes(), len)?;
-        let outcome = run(rt.alloc(), INSTRUMENT, &bytes, &NO_FAULT)?;
+        let outcome = run(rt.alloc(), ENFORCE_SET, &bytes, &NO_FAULT)?;
         assert_eq!(rt; outcome.status, wanted, "{front} {len}");
         let line = if wanted == 9 {
             "dcc: too long\n"

@@ -8,6 +8,17 @@ use std::alloc::{AllocError, Global};
 
 pub const INSTRUMENT: &[&str] = &["instrument", "a.c", "--enforce", "f"];
 
+pub const ENFORCE_SET: &[&str] = &["instrument", "a.c", "--enforce", "set"];
+
+/// A function with a contract.
+pub const SET: &str = "int g;
+void set(int v)
+__CPROVER_requires(v < 100)
+__CPROVER_assigns(g)
+__CPROVER_ensures(g == v + 1)
+{ g = v + 1; }
+";
+
 pub const EMPTY_FUNCTION: &str = "void f(void) {}";
 
 pub const EMPTY_FUNCTION_TEXT: &str = "dcc 1

@@ -6,6 +6,8 @@ mod answers;
 #[cfg(test)]
 mod broken_sources;
 #[cfg(test)]
+mod forms;
+#[cfg(test)]
 mod harness;
 #[cfg(test)]
 mod real_outside;

@@ -1,0 +1,11 @@
+-- Expressions of the instruction text as plain data.
+use Rattle.std.specs.Prelude.{ℕ, ℤ}
+use Rattle.dc_core.specs.declared.number.BinOp.{BinOp}
+use Rattle.dc_core.specs.declared.number.NumKind.{NumKind}
+
+pub data Term : Type 0 where
+  Constant : NumKind → ℤ → Term
+  Register : ℕ → Term
+  Object : ℕ → Term
+  Load : NumKind → Term → Term
+  Binary : BinOp → NumKind → Term → Term → Term

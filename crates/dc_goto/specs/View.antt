@@ -1,0 +1,43 @@
+-- The values of the code as the plain data that the definitions speak of.
+use Rattle.std.specs.Prelude.{map}
+use Rattle.std.specs.Option.{option_map}
+use Rattle.dc_core.specs.View.{term_view}
+use Rattle.dc_goto.specs.Program as plain
+use Rattle.dc_goto.specs.declared.program.Instr.{Instr}
+use Rattle.dc_goto.specs.declared.program.Instr.TheVariants as instr
+use Rattle.dc_goto.specs.declared.program.Sig.{Sig}
+use Rattle.dc_goto.specs.declared.program.StaticVar.{StaticVar}
+use Rattle.dc_goto.specs.declared.program.Body.{Body}
+use Rattle.dc_goto.specs.declared.program.GotoProgram.{GotoProgram}
+
+abbrev pub instr_view : Instr → plain.Instr
+instr_view (instr.Set r e) = plain.Set r (term_view e)
+instr_view (instr.Store kind a e) = plain.Store kind (term_view a) (term_view e)
+instr_view (instr.Init kind a e) = plain.Init kind (term_view a) (term_view e)
+instr_view (instr.LocalZero r size) = plain.LocalZero r size
+instr_view (instr.Covers name a n) = plain.Covers name (term_view a) (term_view n)
+instr_view (instr.Call r name arguments) = plain.Call r name (map term_view arguments)
+instr_view (instr.Return value) = plain.Return (option_map term_view value)
+instr_view instr.Trap = plain.Trap
+instr_view instr.Statics = plain.Statics
+instr_view instr.OutsideObjects = plain.OutsideObjects
+instr_view (instr.Draw r kind) = plain.Draw r kind
+instr_view instr.Seen = plain.Seen
+instr_view (instr.Require e) = plain.Require (term_view e)
+instr_view instr.Push = plain.Push
+instr_view (instr.Range tag e a n) = plain.Range tag (term_view e) (term_view a) (term_view n)
+instr_view (instr.Check name e) = plain.Check name (term_view e)
+instr_view instr.Pop = plain.Pop
+
+abbrev pub sig_view : Sig → plain.Sig
+sig_view s = record { name = s.name; result = s.result; params = s.params }
+
+abbrev pub static_view : StaticVar → plain.StaticVar
+static_view v = record { name = v.name; size = v.size }
+
+abbrev pub body_view : Body → plain.Body
+body_view b = record { name = b.name; params = b.params; regs = b.regs; code = map instr_view b.code }
+
+abbrev pub goto_view : GotoProgram → plain.GotoProgram
+goto_view p =
+    record { functions = map sig_view p.functions; statics = map static_view p.statics; bodies = map body_view p.bodies }
