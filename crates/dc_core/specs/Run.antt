@@ -281,3 +281,44 @@ seen_out choices (Cut notes w) = seen choices notes end.Cut w
 abbrev pub contract_run : Program → ℕ → List ℕ → Outcome
 contract_run p n choices =
     seen_out choices (tick (start_state n choices) (λ st. contract_from p (entered p st)))
+
+-- The report of the plain run -----------------------------------------------------------------------------------
+
+abbrev pub event_noted : PlainNote → Event
+event_noted (Happened event) = event
+event_noted (Acted act) = act_event act
+
+-- each ensures is a test, from number k on
+abbrev pub ensures_events : Scope → Memory → List Expr → List Event
+ensures_events scope memory [] = []
+ensures_events scope memory (e ∷ ensures_) = Check (holds (value scope memory e)) ∷ ensures_events scope memory ensures_
+
+-- what is seen of a plain run: the clauses that it breaks, its events and then the tests of the ensures
+abbrev pub seen_plain : List ℕ → List (List ℕ) → List Event → End → World → Outcome
+seen_plain choices names events end w =
+    record { names = names; events = events; end = end; used = length choices - length w.choices; memory = w.memory }
+
+abbrev pub seen_call : List ℕ → Function → WriteSet → List ℤ → List Event → Out PlainNote → Outcome
+seen_call choices f set arguments before (Normal notes st) =
+    seen_plain choices (broken_by f set arguments (Normal notes st)) (before ++ map event_noted notes) (end.Returned None) st.world
+seen_call choices f set arguments before (Returned notes result st) =
+    seen_plain choices (broken_by f set arguments (Returned notes result st))
+    (before ++ (map event_noted notes ++ ensures_events (Clause arguments result) st.world.memory f.contract.ensures_))
+    (end.Returned result) st.world
+seen_call choices f set arguments before (Ended notes end w) =
+    seen_plain choices (broken_by f set arguments (Ended notes end w)) (before ++ map event_noted notes) end w
+seen_call choices f set arguments before (Cut notes w) =
+    seen_plain choices (broken_by f set arguments (Cut notes w)) (before ++ map event_noted notes) end.Cut w
+
+abbrev pub seen_entered : List ℕ → Program → Entered → Outcome
+seen_entered choices p (Enters events arguments set st) =
+    seen_call choices p.function set arguments events (call plain_mode p.function set arguments st)
+seen_entered choices p (Stops events end w) = seen_plain choices [] events end w
+
+abbrev pub plain_report_at : Program → ℕ → List ℕ → Outcome
+plain_report_at p zero choices = seen_plain choices [] [] end.Cut (start_world choices)
+plain_report_at p (suc n) choices = seen_entered choices p (entered p (start_state n choices))
+
+-- the report of the plain run of at most n steps
+abbrev pub plain_report : Program → ℕ → List ℕ → Outcome
+plain_report p n choices = plain_report_at p n choices

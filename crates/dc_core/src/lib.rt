@@ -2,14 +2,13 @@
 #![tactic(auto)]
 
 pub mod laws;
-mod name;
 mod number;
 mod program;
 mod reserved;
 mod term;
 mod word;
 
-pub use name::Name;
+pub use dc_text::Name;
 pub use number::{BinOp, NumKind};
 pub use program::{Contract, Expr, Function, Program, Stmt};
 pub use reserved::is_reserved_word;

@@ -1,5 +1,6 @@
 // The typed program. Variables and parameters are named by their numbers, from 0 in the order of their declarations.
-use crate::{BinOp, Name};
+use crate::BinOp;
+use dc_text::Name;
 use sqlite_items::{Boxed, Items};
 
 /// An expression of type int.

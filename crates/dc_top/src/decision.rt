@@ -10,13 +10,12 @@ ghost use Rattle.dc_top.specs.Table.{source_limit, source_of};
 
 use crate::answer::Answer;
 use crate::laws::lowered_is_exact;
-use crate::lines::Lines;
 use crate::lower::lowered;
-use crate::print::text_lines;
 use crate::read::{Form, read_form};
 use crate::table::enforced_name;
 use dc_core::{Name, Program};
 use dc_outside::{ReadAll, Shelf, read_all};
+use dc_print::{Lines, text_lines};
 use sqlite_items::Items;
 use std::alloc::{AllocError, Global};
 

@@ -1,29 +1,12 @@
 // Answers that are written to the two sinks.
-ghost use Rattle.std.specs.Prelude.{◌≡◌, ◌≢◌, [], OnErr, OnOk, flat_map};
+ghost use Rattle.std.specs.Prelude.{◌≡◌, ◌≢◌, []};
 ghost use Rattle.dc_top.specs.Answers.{output_of, status_of};
-ghost use Rattle.dc_top.specs.Delivery.{Complains, Delivers, Failed, Says, Took, sunk};
+ghost use Rattle.dc_top.specs.Delivery.{Complains, Delivers, Says, sunk};
 
 use crate::answer::Answer;
-use crate::lines::Lines;
-use dc_outside::laws::{adds_nothing, adds_twice, prefix_behind};
-use dc_outside::{Sink, SinkFault, write_all};
-use sqlite_items::Items;
-
-// Writes the lines, each as one piece.
-fn write_lines<S: Sink>(sink: &mut S, lines: &[Items<u8>]) -> Result<(), SinkFault>
-    ensures ok { OnOk result (Took (sunk (S.written sink.old) (S.written sink.new) (S.faults sink.old) (S.faults sink.new)) (flat_map (λ line. line) lines.now)) }
-    ensures err { OnErr result (Failed (sunk (S.written sink.old) (S.written sink.new) (S.faults sink.old) (S.faults sink.new)) (flat_map (λ line. line) lines.now)) }
-{
-    adds_nothing();
-    adds_twice();
-    prefix_behind();
-    for line in lines {
-        if let Err(fault) = write_all(sink, line.as_slice()) {
-            return Err(fault);
-        }
-    }
-    Ok(())
-}
+use dc_outside::laws::adds_nothing;
+use dc_outside::{Sink, write_all};
+use dc_print::{Lines, write_lines};
 
 /// Writes a line that goes with a status, and gives the status, or 7 where the sink failed.
 pub fn complain<E: Sink>(line: &[u8], status: u8, err: &mut E) -> u8

@@ -1,0 +1,4 @@
+pub mod Chosen
+pub mod Heard
+pub mod Reading
+pub mod Answer

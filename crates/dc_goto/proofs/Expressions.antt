@@ -1,0 +1,156 @@
+-- Expressions are read as they are spelt.
+use Rattle.std.proofs.Common.{◌≡◌, ℕ, zero, suc, ◌+◌, ◌-◌, ◌≤◌, ◌<◌, max, Bool, true, false, ◌&&◌, List, [], ◌∷◌, ◌++◌, Option, None, Some, refl, sym, ap, subst, ◌∙◌, arith, append_assoc}
+use Rattle.std.specs.Prelude.{if◌then◌else◌, codes, ℤ, pos, negsuc}
+use Rattle.std.specs.Fmt.{decimal}
+use Rattle.dc_core.specs.declared.number.BinOp.{BinOp}
+use Rattle.dc_core.specs.declared.number.BinOp.TheVariants.{Add, Sub, Lt, Le, Eq, Ne}
+use Rattle.dc_core.specs.declared.number.NumKind.{NumKind}
+use Rattle.dc_core.specs.declared.number.NumKind.TheVariants.{S32, U64}
+use Rattle.dc_core.specs.Term.{Term, Constant, Register, Object, Load, Binary}
+use Rattle.dc_core.specs.Words.{same}
+use Rattle.dc_goto.specs.Text.{kind_word, operator_word, number_word, spaced, term_word}
+use Rattle.dc_goto.specs.Lines.{IsNumber, IsConstant, HasNumbers, height, height_limit, IsTerm}
+use Rattle.dc_goto.specs.Reading.{Reading, got, then_read, behind_byte, front_word, behind_word, read_word, read_one, read_two, read_three, constant_of, kind_of, operator_of, read_number, read_kind, read_constant, read_leaf, read_operated, read_opened, closed, read_parenthesised, read_term, read_low}
+use Rattle.dc_goto.proofs.Pieces.{Parts, then_parts, then_got, got_parts, Behind, behind_parts, by_word, Ends, word_whole, Reads, word_reads, one_complete, one_sound, two_complete, two_sound, three_complete, three_sound}
+use Rattle.dc_goto.proofs.Meanings.{number_means, constant_means, IsAny, kind_means, operator_sound}
+
+pub number_reads : Reads read_number decimal IsNumber
+number_reads = word_reads _ _ _ number_means
+
+pub kind_reads : Reads read_kind kind_word IsAny
+kind_reads = word_reads _ _ _ kind_means
+
+constant_reads : Reads (read_word constant_of) number_word IsConstant
+constant_reads = word_reads _ _ _ constant_means
+
+-- an expression of at most that height, of numbers that may stand in a line
+abbrev pub IsWithin : ℕ → Term → Type 0
+IsWithin n t = HasNumbers t × (height t ≤ n)
+
+-- what stands between the parentheses
+abbrev inner : Term → List ℕ
+inner (Constant kind z) = kind_word kind ++ spaced (number_word z ∷ [])
+inner (Register r) = codes "reg" ++ spaced (decimal r ∷ [])
+inner (Object n) = codes "obj" ++ spaced (decimal n ∷ [])
+inner (Load kind a) = codes "load" ++ spaced (kind_word kind ∷ term_word a ∷ [])
+inner (Binary op kind a b) = operator_word op ++ spaced (kind_word kind ∷ term_word a ∷ term_word b ∷ [])
+
+word_inner : (t : Term) → term_word t ≡ 40 ∷ (inner t ++ 41 ∷ [])
+word_inner (Constant kind z) = ap (λ l. 40 ∷ l) (sym (append_assoc (kind_word kind) (spaced (number_word z ∷ [])) (41 ∷ [])))
+word_inner (Register r) = refl
+word_inner (Object n) = refl
+word_inner (Load kind a) = refl
+word_inner (Binary op kind a b) =
+    ap (λ l. 40 ∷ l) (sym (append_assoc (operator_word op) (spaced (kind_word kind ∷ term_word a ∷ term_word b ∷ [])) (41 ∷ [])))
+
+word_before : (t : Term) (rest : List ℕ) → term_word t ++ rest ≡ 40 ∷ (inner t ++ (41 ∷ rest))
+word_before t rest = ap (λ l. l ++ rest) (word_inner t) ∙ ap (λ l. 40 ∷ l) (append_assoc (inner t) (41 ∷ []) rest)
+
+-- Between the parentheses -------------------------------------------------------------------------------------------
+
+higher : (n : ℕ) → 1 ≤ suc n
+higher n = omega arith
+
+higher_both : (m n k : ℕ) → m ≤ k → n ≤ k → suc (max m n) ≤ suc k
+higher_both m n k p q = omega arith
+
+lower_left : (m n k : ℕ) → suc (max m n) ≤ suc k → m ≤ k
+lower_left m n k p = omega arith
+
+lower_right : (m n k : ℕ) → suc (max m n) ≤ suc k → n ≤ k
+lower_right m n k p = omega arith
+
+-- what is read behind a first word
+abbrev Opened : ℕ → List ℕ → List ℕ → List ℕ → Term → Type 0
+Opened n word rest bytes t = (word ++ bytes ≡ inner t ++ rest) × IsWithin (suc n) t
+
+constant_sound : (n : ℕ) (kind : Option NumKind) (word bytes rest : List ℕ) (t : Term) → ((k : NumKind) → kind ≡ Some k → word ≡ kind_word k) → read_constant kind bytes ≡ got t rest → Opened n word rest bytes t
+constant_sound n None word bytes rest t w h = cc
+constant_sound n (Some kind) word bytes rest t w h =
+    one_sound constant_reads (Constant kind) bytes rest t h (Opened n word rest) (λ z is.
+    (ap (λ w. w ++ (spaced (number_word z ∷ []) ++ rest)) (w kind refl) ∙ sym (append_assoc (kind_word kind) (spaced (number_word z ∷ [])) rest), (is, higher n)))
+
+leaf_sound : (n : ℕ) (word bytes rest : List ℕ) (t : Term) → read_leaf word bytes ≡ got t rest → Opened n word rest bytes t
+leaf_sound n word bytes rest t h =
+    by_word word (codes "reg") (read_one read_number Register bytes) (if same word (codes "obj") then read_one read_number Object bytes else read_constant (kind_of word) bytes) (got t rest) (Opened n word rest bytes t) h
+    (λ w h. one_sound number_reads Register bytes rest t h (Opened n word rest) (λ r is. (ap (λ w. w ++ (spaced (decimal r ∷ []) ++ rest)) w, (is, higher n))))
+    (λ h. by_word word (codes "obj") (read_one read_number Object bytes) (read_constant (kind_of word) bytes) (got t rest) (Opened n word rest bytes t) h
+    (λ w h. one_sound number_reads Object bytes rest t h (Opened n word rest) (λ r is. (ap (λ w. w ++ (spaced (decimal r ∷ []) ++ rest)) w, (is, higher n))))
+    (λ h. constant_sound n (kind_of word) word bytes rest t (λ k e. (kind_means.sound word k e).0) h))
+
+operated_sound : (n : ℕ) (again : List ℕ → Reading Term) → Reads again term_word (IsWithin n) → (op : Option BinOp) (word bytes rest : List ℕ) (t : Term) → ((o : BinOp) → op ≡ Some o → word ≡ operator_word o) → read_operated again op word bytes ≡ got t rest → Opened n word rest bytes t
+operated_sound n again r None word bytes rest t w h = leaf_sound n word bytes rest t h
+operated_sound n again r (Some op) word bytes rest t w h =
+    three_sound kind_reads r r (Binary op) bytes rest t h (Opened n word rest) (λ kind a b ik ia ib. (
+      ap (λ w. w ++ (spaced (kind_word kind ∷ term_word a ∷ term_word b ∷ []) ++ rest)) (w op refl)
+          ∙ sym (append_assoc (operator_word op) (spaced (kind_word kind ∷ term_word a ∷ term_word b ∷ [])) rest),
+      ((ia.0, ib.0), higher_both (height a) (height b) n ia.1 ib.1),
+    ))
+
+opened_sound : (n : ℕ) (again : List ℕ → Reading Term) → Reads again term_word (IsWithin n) → (word bytes rest : List ℕ) (t : Term) → read_opened again word bytes ≡ got t rest → Opened n word rest bytes t
+opened_sound n again r word bytes rest t h =
+    by_word word (codes "load") (read_two read_kind again Load bytes) (read_operated again (operator_of word) word bytes) (got t rest) (Opened n word rest bytes t) h
+    (λ w h. two_sound kind_reads r Load bytes rest t h (Opened n word rest) (λ kind a ik ia.
+    (ap (λ w. w ++ (spaced (kind_word kind ∷ term_word a ∷ []) ++ rest)) w, (ia.0, higher_load (height a) n ia.1))))
+    (λ h. operated_sound n again r (operator_of word) word bytes rest t (operator_sound word) h)
+  where
+    higher_load : (m n : ℕ) → m ≤ n → suc m ≤ suc n
+    higher_load m n h = omega arith
+
+opened_complete : (n : ℕ) (again : List ℕ → Reading Term) → Reads again term_word (IsWithin n) → (t : Term) (rest : List ℕ) → IsWithin (suc n) t → Ends rest → read_opened again (front_word (inner t ++ rest)) (behind_word (inner t ++ rest)) ≡ got t rest
+opened_complete n again r (Constant S32 z) rest is e = one_complete constant_reads (Constant S32) z rest is.0 e
+opened_complete n again r (Constant U64 z) rest is e = one_complete constant_reads (Constant U64) z rest is.0 e
+opened_complete n again r (Register m) rest is e = one_complete number_reads Register m rest is.0 e
+opened_complete n again r (Object m) rest is e = one_complete number_reads Object m rest is.0 e
+opened_complete n again r (Load kind a) rest is e = two_complete kind_reads r Load kind a rest tt (is.0, lower (height a) n is.1) e
+  where
+    lower : (m n : ℕ) → suc m ≤ suc n → m ≤ n
+    lower m n h = omega arith
+opened_complete n again r (Binary Add kind a b) rest is e = three_complete kind_reads r r (Binary Add) kind a b rest tt (is.0.0, lower_left (height a) (height b) n is.1) (is.0.1, lower_right (height a) (height b) n is.1) e
+opened_complete n again r (Binary Sub kind a b) rest is e = three_complete kind_reads r r (Binary Sub) kind a b rest tt (is.0.0, lower_left (height a) (height b) n is.1) (is.0.1, lower_right (height a) (height b) n is.1) e
+opened_complete n again r (Binary Lt kind a b) rest is e = three_complete kind_reads r r (Binary Lt) kind a b rest tt (is.0.0, lower_left (height a) (height b) n is.1) (is.0.1, lower_right (height a) (height b) n is.1) e
+opened_complete n again r (Binary Le kind a b) rest is e = three_complete kind_reads r r (Binary Le) kind a b rest tt (is.0.0, lower_left (height a) (height b) n is.1) (is.0.1, lower_right (height a) (height b) n is.1) e
+opened_complete n again r (Binary Eq kind a b) rest is e = three_complete kind_reads r r (Binary Eq) kind a b rest tt (is.0.0, lower_left (height a) (height b) n is.1) (is.0.1, lower_right (height a) (height b) n is.1) e
+opened_complete n again r (Binary Ne kind a b) rest is e = three_complete kind_reads r r (Binary Ne) kind a b rest tt (is.0.0, lower_left (height a) (height b) n is.1) (is.0.1, lower_right (height a) (height b) n is.1) e
+
+-- Expressions -------------------------------------------------------------------------------------------------------
+
+parenthesised : (n : ℕ) (again : List ℕ → Reading Term) → Reads again term_word (IsWithin n) → Reads (read_parenthesised again) term_word (IsWithin (suc n))
+parenthesised n again r = record { sound = sound; complete = complete }
+  where
+    sound : (bytes rest : List ℕ) (t : Term) → read_parenthesised again bytes ≡ got t rest → (bytes ≡ term_word t ++ rest) × IsWithin (suc n) t
+    sound bytes rest t h =
+        let p = behind_parts 40 bytes (λ bytes. closed (read_opened again (front_word bytes) (behind_word bytes))) t rest h in
+        let q = then_parts (read_opened again (front_word p.tail) (behind_word p.tail)) (λ t bytes. behind_byte 41 bytes (got t)) t rest p.read in
+        let s = behind_parts 41 q.middle (got q.value) t rest q.second in
+        let v = got_parts q.value t s.tail rest s.read in
+        let o = opened_sound n again r (front_word p.tail) (behind_word p.tail) q.middle q.value q.first in
+        let text : bytes ≡ term_word q.value ++ rest =
+        p.whole ∙ ap (λ l. 40 ∷ l) (sym (word_whole p.tail) ∙ o.0 ∙ ap (λ l. inner q.value ++ l) (s.whole ∙ ap (λ l. 41 ∷ l) v.1))
+        ∙ sym (word_before q.value rest) in
+        subst (λ t. (bytes ≡ term_word t ++ rest) × IsWithin (suc n) t) v.0 (text, o.1)
+
+    complete : (t : Term) (rest : List ℕ) → IsWithin (suc n) t → Ends rest → read_parenthesised again (term_word t ++ rest) ≡ got t rest
+    complete t rest is e =
+        ap (read_parenthesised again) (word_before t rest)
+        ∙ ap closed (opened_complete n again r t (41 ∷ rest) is refl)
+
+tall : (t : Term) → height t ≤ 0 → ⊥
+tall (Constant kind z) h = omega arith
+tall (Register r) h = omega arith
+tall (Object n) h = omega arith
+tall (Load kind a) h = omega arith
+tall (Binary op kind a b) h = omega arith
+
+pub term_reads : (n : ℕ) → Reads (read_term n) term_word (IsWithin n)
+unfolding read_term
+term_reads zero = record { sound = λ bytes rest t h. cc; complete = λ t rest is e. absurd (tall t is.1) }
+term_reads (suc n) = parenthesised n (read_term n) (term_reads n)
+
+pub low_reads : Reads read_low term_word IsTerm
+low_reads =
+    let r = term_reads height_limit in
+    record {
+      sound = λ bytes rest t h. let s = r.sound bytes rest t h in (s.0, record { numbers = s.1.0; low = s.1.1 });
+      complete = λ t rest is e. r.complete t rest (is.numbers, is.low) e;
+    }

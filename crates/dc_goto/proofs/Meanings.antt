@@ -1,0 +1,297 @@
+-- What words mean is what they are spelt for.
+use Rattle.std.proofs.Common.{◌≡◌, ℕ, zero, suc, ◌+◌, ◌-◌, ◌^◌, ◌≤◌, ◌<◌, Bool, true, false, ◌&&◌, List, [], ◌∷◌, ◌++◌, Option, None, Some, refl, sym, ap, subst, ◌∙◌, arith, lit<}
+use Rattle.std.specs.Prelude.{if◌then◌else◌, not, ◌==◌, ◌||◌, codes, ℤ, pos, negsuc}
+use Rattle.std.specs.Option.{option_map}
+use Rattle.std.specs.List.{list_all}
+use Rattle.std.specs.Fmt.{decimal}
+use Rattle.std.proofs.lemmas.Bool.Decides.{nat_tests}
+use Rattle.dc_core.specs.declared.number.BinOp.{BinOp}
+use Rattle.dc_core.specs.declared.number.BinOp.TheVariants.{Add, Sub, Lt, Le, Eq, Ne}
+use Rattle.dc_core.specs.declared.number.NumKind.{NumKind}
+use Rattle.dc_core.specs.declared.number.NumKind.TheVariants.{S32, U64}
+use Rattle.dc_core.specs.Words.{same, is_digit, is_word, is_word_part}
+use Rattle.dc_goto.specs.Text.{kind_word, operator_word, number_word, register_word, result_word}
+use Rattle.dc_goto.specs.Lines.{IsNumber, IsConstant, IsOptionalNumber, is_check_part, is_check_name, is_body_name}
+use Rattle.dc_goto.specs.Reading.{decimal_of, number_of, negative, constant_of, word_that, literal, kind_of, result_of, operator_of, register_of}
+use Rattle.dc_goto.proofs.Digits.{and_true, both_true, under_test, decimal_read, read_decimal, decimal_goes_on, decimal_begins, BeginsWithDigit}
+use Rattle.dc_goto.proofs.Pieces.{Means, goes_on, equal_bytes, same_self, by_word}
+
+some_is : {A : Type 0} (x y : A) → Some x ≡ Some y → x ≡ y
+some_is x y h = cc
+
+not_same : (x y : List ℕ) → (x ≡ y → ⊥) → same x y ≡ false
+not_same x y h = by_test (same x y) refl
+  where
+    by_test : (t : Bool) → same x y ≡ t → same x y ≡ false
+    by_test true e = absurd (h (equal_bytes x y e))
+    by_test false e = e
+
+-- Numbers ---------------------------------------------------------------------------------------------------------
+
+wide_number : 2 ^ 64 - 1 < 10 ^ 64
+wide_number = lit< tt
+
+wide_constant : 2 ^ 127 - 1 < 10 ^ 64
+wide_constant = lit< tt
+
+wide_negative : 2 ^ 127 < 10 ^ 64
+wide_negative = lit< tt
+
+below_limit : (n limit top : ℕ) → n ≤ limit - 1 → 0 < limit → n < limit
+below_limit n limit top h p = omega arith
+
+at_limit : (n limit : ℕ) → n < limit → n ≤ limit - 1
+at_limit n limit h = omega arith
+
+number_wide : (n : ℕ) → n < 2 ^ 64 → n < 10 ^ 64
+number_wide n h = less n (2 ^ 64) (10 ^ 64) h (lit< tt)
+  where
+    less : (a b c : ℕ) → a < b → b < c → a < c
+    less a b c p q = omega arith
+
+constant_wide : (n : ℕ) → n < 2 ^ 127 → n < 10 ^ 64
+constant_wide n h = less n (2 ^ 127) (10 ^ 64) h (lit< tt)
+  where
+    less : (a b c : ℕ) → a < b → b < c → a < c
+    less a b c p q = omega arith
+
+negative_wide : (n : ℕ) → n < 2 ^ 127 → suc n < 10 ^ 64
+negative_wide n h = less n (2 ^ 127) (10 ^ 64) h (lit< tt)
+  where
+    less : (a b c : ℕ) → a < b → b < c → suc a < c
+    less a b c p q = omega arith
+
+pub number_means : Means number_of decimal IsNumber
+number_means =
+    record {
+      sound = λ word n h.
+          let r = read_decimal (2 ^ 64 - 1) word n wide_number h in
+          (r.0, below_limit n (2 ^ 64) 0 r.1 (lit< tt));
+      complete = λ n is. decimal_read (2 ^ 64 - 1) n wide_number (at_limit n (2 ^ 64) is);
+      whole = λ n is. decimal_goes_on n (number_wide n is);
+    }
+
+digit_no_minus : (b : ℕ) → is_digit b ≡ true → (b == 45) ≡ false
+digit_no_minus b h = grind (arith, nat_tests)
+
+minus_byte : (b : ℕ) → (b == 45) ≡ true → b ≡ 45
+minus_byte b h = grind (arith, nat_tests)
+
+negative_is : (o : Option ℕ) (z : ℤ) → negative o ≡ Some z → (n : ℕ) × (o ≡ Some (suc n)) × (z ≡ negsuc n)
+negative_is None z h = cc
+negative_is (Some n) z h = by_test (n == 0) refl h
+  where
+    one_more : (n : ℕ) → (n == 0) ≡ false → n ≡ suc (n - 1)
+    one_more n h = grind (arith, nat_tests)
+
+    by_test : (t : Bool) → (n == 0) ≡ t → (if t then None else Some (negsuc (n - 1))) ≡ Some z → (m : ℕ) × (Some n ≡ Some (suc m)) × (z ≡ negsuc m)
+    by_test true e h = cc
+    by_test false e h = (n - 1, ap (λ n. Some n) (one_more n e), sym (some_is (negsuc (n - 1)) z h))
+
+negative_gives : (n : ℕ) → negative (Some (suc n)) ≡ Some (negsuc n)
+negative_gives n = ap (λ t. if t then None else Some (negsuc (suc n - 1))) (not_zero n) ∙ ap (λ m. Some (negsuc m)) (less n)
+  where
+    not_zero : (n : ℕ) → (suc n == 0) ≡ false
+    not_zero n = grind (arith, nat_tests)
+
+    less : (n : ℕ) → suc n - 1 ≡ n
+    less n = omega arith
+
+positive_is : (o : Option ℕ) (z : ℤ) → option_map pos o ≡ Some z → (n : ℕ) × (o ≡ Some n) × (z ≡ pos n)
+positive_is None z h = cc
+positive_is (Some n) z h = (n, refl, sym (some_is (pos n) z h))
+
+pub constant_means : Means constant_of number_word IsConstant
+constant_means = record { sound = sound; complete = complete; whole = whole }
+  where
+    sound : (word : List ℕ) (z : ℤ) → constant_of word ≡ Some z → (word ≡ number_word z) × IsConstant z
+    sound [] z h = cc
+    sound (b ∷ bytes) z h = by_test (b == 45) refl h
+      where
+        less : (n limit : ℕ) → suc n ≤ limit → n < limit
+        less n limit h = omega arith
+
+        by_test : (t : Bool) → (b == 45) ≡ t → (if t then negative (decimal_of (2 ^ 127) bytes) else option_map pos (decimal_of (2 ^ 127 - 1) (b ∷ bytes))) ≡ Some z → (b ∷ bytes ≡ number_word z) × IsConstant z
+        by_test true e h =
+            let p = negative_is (decimal_of (2 ^ 127) bytes) z h in
+            let r = read_decimal (2 ^ 127) bytes (suc p.0) wide_negative p.1 in
+            subst (λ z. (b ∷ bytes ≡ number_word z) × IsConstant z) (sym p.2)
+            (ap (λ b. b ∷ bytes) (minus_byte b e) ∙ ap (λ bytes. 45 ∷ bytes) r.0, less p.0 (2 ^ 127) r.1)
+        by_test false e h =
+            let p = positive_is (decimal_of (2 ^ 127 - 1) (b ∷ bytes)) z h in
+            let r = read_decimal (2 ^ 127 - 1) (b ∷ bytes) p.0 wide_constant p.1 in
+            subst (λ z. (b ∷ bytes ≡ number_word z) × IsConstant z) (sym p.2)
+            (r.0, below_limit p.0 (2 ^ 127) 0 r.1 (lit< tt))
+
+    complete : (z : ℤ) → IsConstant z → constant_of (number_word z) ≡ Some z
+    complete (pos n) is =
+        let d = decimal_begins n (constant_wide n is) in
+        let t = digit_no_minus d.first d.digit in
+        let r : decimal_of (2 ^ 127 - 1) (d.first ∷ d.rest) ≡ Some n = ap (decimal_of (2 ^ 127 - 1)) (sym d.whole) ∙ decimal_read (2 ^ 127 - 1) n wide_constant (at_limit n (2 ^ 127) is) in
+        ap constant_of d.whole
+        ∙ ap (λ t. if t then negative (decimal_of (2 ^ 127) d.rest) else option_map pos (decimal_of (2 ^ 127 - 1) (d.first ∷ d.rest))) t
+        ∙ ap (option_map pos) r
+    complete (negsuc n) is = ap negative (decimal_read (2 ^ 127) (suc n) wide_negative (more n (2 ^ 127) is)) ∙ negative_gives n
+      where
+        more : (n limit : ℕ) → n < limit → suc n ≤ limit
+        more n limit h = omega arith
+
+    whole : (z : ℤ) → IsConstant z → list_all goes_on (number_word z) ≡ true
+    whole (pos n) is = decimal_goes_on n (constant_wide n is)
+    whole (negsuc n) is = decimal_goes_on (suc n) (negative_wide n is)
+
+-- Kinds and operators ---------------------------------------------------------------------------------------------
+
+abbrev pub IsAny : {A : Type 0} → A → Type 0
+IsAny a = Unit {0}
+
+pub kind_means : Means kind_of kind_word IsAny
+kind_means = record { sound = sound; complete = complete; whole = whole }
+  where
+    sound : (word : List ℕ) (kind : NumKind) → kind_of word ≡ Some kind → (word ≡ kind_word kind) × Unit {0}
+    sound word kind h =
+        let P = (word ≡ kind_word kind) × Unit {0} in
+        by_word word (codes "s32") (Some S32) (if same word (codes "u64") then Some U64 else None) (Some kind) P h
+        (λ w e. (w ∙ ap kind_word (some_is S32 kind e), tt))
+        (λ h. by_word word (codes "u64") (Some U64) None (Some kind) P h
+        (λ w e. (w ∙ ap kind_word (some_is U64 kind e), tt))
+        (λ h. cc))
+
+    complete : (kind : NumKind) → Unit {0} → kind_of (kind_word kind) ≡ Some kind
+    complete S32 is = refl
+    complete U64 is = refl
+
+    whole : (kind : NumKind) → Unit {0} → list_all goes_on (kind_word kind) ≡ true
+    whole S32 is = refl
+    whole U64 is = refl
+
+pub operator_sound : (word : List ℕ) (op : BinOp) → operator_of word ≡ Some op → word ≡ operator_word op
+operator_sound word op h =
+    let P = word ≡ operator_word op in
+    by_word word (codes "add") (Some Add) (if same word (codes "sub") then Some Sub else if same word (codes "lt") then Some Lt else if same word (codes "le") then Some Le else if same word (codes "eq") then Some Eq else if same word (codes "ne") then Some Ne else None) (Some op) P h
+    (λ w e. w ∙ ap operator_word (some_is Add op e))
+    (λ h. by_word word (codes "sub") (Some Sub) (if same word (codes "lt") then Some Lt else if same word (codes "le") then Some Le else if same word (codes "eq") then Some Eq else if same word (codes "ne") then Some Ne else None) (Some op) P h
+    (λ w e. w ∙ ap operator_word (some_is Sub op e))
+    (λ h. by_word word (codes "lt") (Some Lt) (if same word (codes "le") then Some Le else if same word (codes "eq") then Some Eq else if same word (codes "ne") then Some Ne else None) (Some op) P h
+    (λ w e. w ∙ ap operator_word (some_is Lt op e))
+    (λ h. by_word word (codes "le") (Some Le) (if same word (codes "eq") then Some Eq else if same word (codes "ne") then Some Ne else None) (Some op) P h
+    (λ w e. w ∙ ap operator_word (some_is Le op e))
+    (λ h. by_word word (codes "eq") (Some Eq) (if same word (codes "ne") then Some Ne else None) (Some op) P h
+    (λ w e. w ∙ ap operator_word (some_is Eq op e))
+    (λ h. by_word word (codes "ne") (Some Ne) None (Some op) P h
+    (λ w e. w ∙ ap operator_word (some_is Ne op e))
+    (λ h. cc))))))
+
+mapped_some : {A : Type 0} (o : Option A) (r : Option A) → option_map (λ x. Some x) o ≡ Some r → (a : A) × (o ≡ Some a) × (r ≡ Some a)
+mapped_some None r h = cc
+mapped_some (Some a) r h = (a, refl, sym (some_is (Some a) r h))
+
+pub result_means : Means result_of result_word IsAny
+result_means = record { sound = sound; complete = complete; whole = whole }
+  where
+    sound : (word : List ℕ) (result : Option NumKind) → result_of word ≡ Some result → (word ≡ result_word result) × Unit {0}
+    sound word result h =
+        by_word word (codes "void") (Some None) (option_map (λ x. Some x) (kind_of word)) (Some result) ((word ≡ result_word result) × Unit {0}) h
+        (λ w e. (w ∙ ap result_word (some_is None result e), tt))
+        (λ h.
+        let p = mapped_some (kind_of word) result h in
+        ((kind_means.sound word p.0 p.1).0 ∙ ap result_word (sym p.2), tt))
+
+    complete : (result : Option NumKind) → Unit {0} → result_of (result_word result) ≡ Some result
+    complete None is = refl
+    complete (Some S32) is = refl
+    complete (Some U64) is = refl
+
+    whole : (result : Option NumKind) → Unit {0} → list_all goes_on (result_word result) ≡ true
+    whole None is = refl
+    whole (Some kind) is = kind_means.whole kind tt
+
+pub register_means : Means register_of register_word IsOptionalNumber
+register_means = record { sound = sound; complete = complete; whole = whole }
+  where
+    sound : (word : List ℕ) (r : Option ℕ) → register_of word ≡ Some r → (word ≡ register_word r) × IsOptionalNumber r
+    sound word r h =
+        by_word word (codes "-") (Some None) (option_map (λ x. Some x) (number_of word)) (Some r) ((word ≡ register_word r) × IsOptionalNumber r) h
+        (λ w e. subst (λ r. (word ≡ register_word r) × IsOptionalNumber r) (some_is None r e) (w, tt))
+        (λ h.
+        let p = mapped_some (number_of word) r h in
+        let s = number_means.sound word p.0 p.1 in
+        subst (λ r. (word ≡ register_word r) × IsOptionalNumber r) (sym p.2) (s.0, s.1))
+
+    no_minus : (n : ℕ) → IsNumber n → decimal n ≡ codes "-" → ⊥
+    no_minus n is e =
+        let d = decimal_begins n (number_wide n is) in
+        let t = digit_no_minus d.first d.digit in
+        clash d.first d.rest (sym d.whole ∙ e) t
+      where
+        clash : (b : ℕ) (rest : List ℕ) → b ∷ rest ≡ 45 ∷ [] → (b == 45) ≡ false → ⊥
+        clash b rest e t = let f : b ≡ 45 = cc in grind (arith, nat_tests)
+
+    complete : (r : Option ℕ) → IsOptionalNumber r → register_of (register_word r) ≡ Some r
+    complete None is = refl
+    complete (Some n) is =
+        ap (λ t. if t then Some None else option_map (λ x. Some x) (number_of (decimal n))) (not_same (decimal n) (codes "-") (no_minus n is))
+        ∙ ap (option_map (λ x. Some x)) (number_means.complete n is)
+
+    whole : (r : Option ℕ) → IsOptionalNumber r → list_all goes_on (register_word r) ≡ true
+    whole None is = refl
+    whole (Some n) is = number_means.whole n is
+
+-- Names -----------------------------------------------------------------------------------------------------------
+
+pub that_means : (test : List ℕ → Bool) → ((word : List ℕ) → test word ≡ true → list_all goes_on word ≡ true) → Means (word_that test) (λ word. word) (λ word. test word ≡ true)
+that_means test goes =
+    record {
+      sound = λ word name h.
+          let p = under_test (test word) (Some word) name h in
+          let e = some_is word name p.1 in
+          (e, subst (λ word. test word ≡ true) e p.0);
+      complete = λ name is. ap (λ t. if t then Some name else None) is;
+      whole = goes;
+    }
+
+pub literal_means : (wanted : List ℕ) → list_all goes_on wanted ≡ true → Means (literal wanted) (λ one. wanted) IsAny
+literal_means wanted goes =
+    record {
+      sound = λ word one h.
+          let p = under_test (same word wanted) (Some tt) one h in
+          (equal_bytes word wanted p.0, tt);
+      complete = λ one is. ap (λ t. if t then Some tt else None) (same_self wanted);
+      whole = λ one is. goes;
+    }
+
+word_part_goes_on : (b : ℕ) → is_word_part b ≡ true → goes_on b ≡ true
+word_part_goes_on b h = grind (arith, nat_tests)
+
+check_part_goes_on : (b : ℕ) → is_check_part b ≡ true → goes_on b ≡ true
+check_part_goes_on b h = grind (arith, nat_tests)
+
+all_go_on : (p : ℕ → Bool) → ((b : ℕ) → p b ≡ true → goes_on b ≡ true) → (bytes : List ℕ) → list_all p bytes ≡ true → list_all goes_on bytes ≡ true
+all_go_on p each [] h = refl
+all_go_on p each (b ∷ bytes) h =
+    let t = and_true (p b) (list_all p bytes) h in
+    both_true (goes_on b) (list_all goes_on bytes) (each b t.0) (all_go_on p each bytes t.1)
+
+letter_is_part : (b : ℕ) → (x : Bool) → (x ≡ true) → (x || is_digit b) ≡ true
+letter_is_part b x h = rw h refl
+
+pub word_goes_on : (word : List ℕ) → is_word word ≡ true → list_all goes_on word ≡ true
+word_goes_on [] h = refl
+word_goes_on (b ∷ bytes) h = all_go_on is_word_part word_part_goes_on (b ∷ bytes) (parts b bytes h)
+  where
+    parts : (b : ℕ) (bytes : List ℕ) → is_word (b ∷ bytes) ≡ true → list_all is_word_part (b ∷ bytes) ≡ true
+    parts b bytes h =
+        let t = and_true _ (list_all is_word_part bytes) h in
+        both_true (is_word_part b) (list_all is_word_part bytes) (letter_is_part b _ t.0) t.1
+
+pub check_name_goes_on : (word : List ℕ) → is_check_name word ≡ true → list_all goes_on word ≡ true
+check_name_goes_on [] h = refl
+check_name_goes_on (b ∷ bytes) h = all_go_on is_check_part check_part_goes_on (b ∷ bytes) h
+
+pub body_name_goes_on : (word : List ℕ) → is_body_name word ≡ true → list_all goes_on word ≡ true
+body_name_goes_on word h = by_test (is_word word) refl (same word (codes ".start")) refl h
+  where
+    by_test : (t : Bool) → is_word word ≡ t → (u : Bool) → same word (codes ".start") ≡ u → (t || u) ≡ true → list_all goes_on word ≡ true
+    by_test true e u f h = word_goes_on word e
+    by_test false e true f h = ap (list_all goes_on) (equal_bytes word (codes ".start") f)
+    by_test false e false f h = cc

@@ -1,0 +1,115 @@
+// Kinds, operators and expressions as text.
+ghost use Rattle.std.specs.Prelude.{◌≡◌, ◌++◌, ◌∷◌, OnOk};
+ghost use Rattle.std.specs.Fmt.{decimal};
+ghost use Rattle.dc_core.specs.View.{term_view};
+ghost use Rattle.dc_goto.specs.Text.{kind_word, operator_word, term_word};
+
+use crate::decimal::{put_decimal, put_number};
+use dc_core::{BinOp, NumKind, Term};
+use std::alloc::{AllocError, Global};
+
+/// Adds the word of a kind.
+pub fn put_kind(out: &mut Vec<u8>, kind: NumKind) -> Result<(), AllocError>
+    ensures { OnOk result (out.new.items ≡ out.old.items ++ kind_word kind) }
+{
+    match kind {
+        NumKind::S32 => out.extend_from_slice(b"s32"),
+        NumKind::U64 => out.extend_from_slice(b"u64"),
+    }
+}
+
+/// Adds the word of an operator.
+pub fn put_operator(out: &mut Vec<u8>, op: BinOp) -> Result<(), AllocError>
+    ensures { OnOk result (out.new.items ≡ out.old.items ++ operator_word op) }
+{
+    match op {
+        BinOp::Add => out.extend_from_slice(b"add"),
+        BinOp::Sub => out.extend_from_slice(b"sub"),
+        BinOp::Lt => out.extend_from_slice(b"lt"),
+        BinOp::Le => out.extend_from_slice(b"le"),
+        BinOp::Eq => out.extend_from_slice(b"eq"),
+        BinOp::Ne => out.extend_from_slice(b"ne"),
+    }
+}
+
+/// Adds an expression in its parentheses.
+#[cycle(put_term)]
+pub fn put_term(alloc: Global, out: &mut Vec<u8>, t: &Term) -> Result<(), AllocError>
+    ensures { OnOk result (out.new.items ≡ out.old.items ++ term_word (term_view t.now)) }
+{
+    match t {
+        Term::Constant(kind, z) => {
+            out.extend_from_slice(b"(")?;
+            put_kind(out, *kind)?;
+            out.extend_from_slice(b" ")?;
+            put_number(alloc, out, *z)?;
+            out.extend_from_slice(b")")?;
+            Ok(())
+        }
+        Term::Register(r) => {
+            out.extend_from_slice(b"(reg ")?;
+            put_decimal(alloc, out, *r)?;
+            out.extend_from_slice(b")")?;
+            Ok(())
+        }
+        Term::Object(n) => {
+            out.extend_from_slice(b"(obj ")?;
+            put_decimal(alloc, out, *n)?;
+            out.extend_from_slice(b")")?;
+            Ok(())
+        }
+        Term::Load(kind, address) => {
+            out.extend_from_slice(b"(load")?;
+            put_spaced_kind(out, *kind)?;
+            put_spaced_term(alloc, out, address.get())?;
+            out.extend_from_slice(b")")?;
+            Ok(())
+        }
+        Term::Binary(op, kind, a, b) => {
+            out.extend_from_slice(b"(")?;
+            put_operator(out, *op)?;
+            put_spaced_kind(out, *kind)?;
+            put_spaced_term(alloc, out, a.get())?;
+            put_spaced_term(alloc, out, b.get())?;
+            out.extend_from_slice(b")")?;
+            Ok(())
+        }
+    }
+}
+
+/// Adds a space and an expression.
+#[cycle(put_term)]
+pub fn put_spaced_term(alloc: Global, out: &mut Vec<u8>, t: &Term) -> Result<(), AllocError>
+    ensures { OnOk result (out.new.items ≡ out.old.items ++ 32 ∷ term_word (term_view t.now)) }
+{
+    out.push(b' ')?;
+    put_term(alloc, out, t)?;
+    Ok(())
+}
+
+/// Adds a space and the digits of a number.
+pub fn put_spaced_decimal(alloc: Global, out: &mut Vec<u8>, n: u64) -> Result<(), AllocError>
+    ensures { OnOk result (out.new.items ≡ out.old.items ++ 32 ∷ decimal n) }
+{
+    out.push(b' ')?;
+    put_decimal(alloc, out, n)?;
+    Ok(())
+}
+
+/// Adds a space and the word of a kind.
+pub fn put_spaced_kind(out: &mut Vec<u8>, kind: NumKind) -> Result<(), AllocError>
+    ensures { OnOk result (out.new.items ≡ out.old.items ++ 32 ∷ kind_word kind) }
+{
+    out.push(b' ')?;
+    put_kind(out, kind)?;
+    Ok(())
+}
+
+/// Adds a space and a word.
+pub fn put_spaced(out: &mut Vec<u8>, word: &[u8]) -> Result<(), AllocError>
+    ensures { OnOk result (out.new.items ≡ out.old.items ++ 32 ∷ word.now) }
+{
+    out.push(b' ')?;
+    out.extend_from_slice(word)?;
+    Ok(())
+}

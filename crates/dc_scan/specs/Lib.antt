@@ -1,0 +1,4 @@
+pub mod View
+pub mod Assembling
+pub mod Scanned
+pub mod Judging

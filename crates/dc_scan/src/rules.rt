@@ -1,0 +1,163 @@
+// The rules for single instructions.
+ghost use Rattle.std.specs.Prelude.{◌≡◌, length, map};
+ghost use Rattle.std.specs.List.{list_all};
+ghost use Rattle.std.specs.Option.{option_map};
+ghost use Rattle.dc_core.specs.Number.{is_value as value_is};
+ghost use Rattle.dc_core.specs.View.{term_view};
+ghost use Rattle.dc_goto.specs.Shape.{is_size as size_is, leaves as instr_leaves, may_act as acts, may_call as calls, may_give as gives, may_mean as means, may_return as returns, may_take as takes, sig_of};
+ghost use Rattle.dc_goto.specs.View.{instr_view, sig_view};
+ghost use Rattle.dc_scan.specs.View.{head_view};
+
+use crate::functions::Functions;
+use crate::lines::BodyHead;
+use crate::names::NameRef;
+use dc_core::{NumKind, Term};
+use dc_goto::{Instr, Sig};
+
+// Whether the number is a value of the kind.
+fn is_value(kind: NumKind, number: i128) -> bool
+    ensures { result ≡ value_is kind number }
+{
+    match kind {
+        NumKind::S32 => !(number < -2147483648) && !(2147483647 < number),
+        NumKind::U64 => !(number < 0) && !(18446744073709551615 < number),
+    }
+}
+
+/// Whether this is the size of an object.
+pub fn is_size(size: u64) -> bool
+    ensures { result ≡ size_is size }
+{
+    1 <= size && size <= 16777216
+}
+
+// Whether an expression keeps the rules, where there are that many objects and registers.
+fn may_mean(objects: u64, regs: u64, term: &Term) -> bool
+    ensures { result ≡ means objects regs (term_view term.now) }
+{
+    match term {
+        Term::Constant(kind, number) => is_value(*kind, *number),
+        Term::Register(register) => *register < regs,
+        Term::Object(object) => *object <= objects,
+        Term::Load(_, address) => may_mean(objects, regs, address.get()),
+        Term::Binary(_, _, left, right) => {
+            may_mean(objects, regs, left.get()) && may_mean(objects, regs, right.get())
+        }
+    }
+}
+
+// Whether all of the expressions keep the rules.
+fn all_mean(objects: u64, regs: u64, terms: &[Term]) -> bool
+    ensures { result ≡ list_all (means objects regs) (map term_view terms.now) }
+{
+    for term in terms {
+        if !may_mean(objects, regs, term) {
+            return false;
+        }
+    }
+    true
+}
+
+// Whether the register, which may be left away, is one of the body's.
+fn may_take(regs: u64, register: &Option<u64>) -> bool
+    ensures { result ≡ takes regs register.now }
+{
+    match register {
+        None => true,
+        Some(register) => *register < regs,
+    }
+}
+
+// Whether a call has as many arguments as the function, and no register where it gives nothing.
+fn may_call(function: Option<&Sig>, register: &Option<u64>, arguments: usize) -> bool
+    ensures { result ≡ calls (option_map (λ sig. sig_view sig.now) function.entry) register.now arguments }
+{
+    let Some(sig) = function else {
+        return false;
+    };
+    arguments == sig.params.len() && (sig.result.is_some() || !register.is_some())
+}
+
+// Whether a return has a value exactly where the function gives one.
+fn may_return(function: Option<&Sig>, value: &Option<Term>) -> bool
+    ensures { result ≡ returns (option_map (λ sig. sig_view sig.now) function.entry) (option_map term_view value.now) }
+{
+    let Some(sig) = function else {
+        return true;
+    };
+    match value {
+        None => !sig.result.is_some(),
+        Some(_) => sig.result.is_some(),
+    }
+}
+
+// Whether a returned value keeps the rules.
+fn may_give(objects: u64, regs: u64, value: &Option<Term>) -> bool
+    ensures { result ≡ gives objects regs (option_map term_view value.now) }
+{
+    match value {
+        None => true,
+        Some(value) => may_mean(objects, regs, value),
+    }
+}
+
+/// Whether an instruction keeps the rules in a body, where those functions and that many objects are.
+pub fn may_act<'a>(
+    functions: &Functions<'a>,
+    objects: u64,
+    head: &'a BodyHead,
+    instr: &'a Instr,
+) -> bool
+    ensures { result ≡ acts functions.now objects (head_view head.now) (instr_view instr.now) }
+{
+    let regs = head.regs;
+    match instr {
+        Instr::Set(register, value) => *register < regs && may_mean(objects, regs, value),
+        Instr::Store(_, address, value) => {
+            may_mean(objects, regs, address) && may_mean(objects, regs, value)
+        }
+        Instr::Init(_, address, value) => {
+            may_mean(objects, regs, address) && may_mean(objects, regs, value)
+        }
+        Instr::LocalZero(register, size) => *register < regs && is_size(*size),
+        Instr::Covers(_, address, len) => {
+            may_mean(objects, regs, address) && may_mean(objects, regs, len)
+        }
+        Instr::Call(register, name, arguments) => {
+            may_call(
+                functions.find(&NameRef::new(name)),
+                register,
+                arguments.len(),
+            ) && may_take(regs, register)
+                && all_mean(objects, regs, arguments.as_slice())
+        }
+        Instr::Return(value) => {
+            may_return(functions.find(&NameRef::new(&head.name)), value)
+                && may_give(objects, regs, value)
+        }
+        Instr::Draw(register, _) => *register < regs,
+        Instr::Require(test) => may_mean(objects, regs, test),
+        Instr::Range(_, condition, address, len) => {
+            may_mean(objects, regs, condition)
+                && may_mean(objects, regs, address)
+                && may_mean(objects, regs, len)
+        }
+        Instr::Check(_, test) => may_mean(objects, regs, test),
+        Instr::Trap
+        | Instr::Statics
+        | Instr::OutsideObjects
+        | Instr::Seen
+        | Instr::Push
+        | Instr::Pop => true,
+    }
+}
+
+/// Whether the instruction leaves its body.
+pub fn leaves(instr: &Instr) -> bool
+    ensures { result ≡ instr_leaves (instr_view instr.now) }
+{
+    match instr {
+        Instr::Return(_) | Instr::Trap => true,
+        _ => false,
+    }
+}

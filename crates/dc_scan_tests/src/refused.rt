@@ -1,0 +1,657 @@
+// Texts that are refused, and texts beside them that aren't.
+use crate::answers::{Answer, answer_to};
+use std::test::Fail;
+
+struct Case {
+    text: &'static str,
+    answer: Answer,
+}
+
+const CASES: [Case; 158] = [
+    Case {
+        text: "dcc 1 \n",
+        answer: Answer::Line(1),
+    },
+    Case {
+        text: "dcc  1\n",
+        answer: Answer::Line(1),
+    },
+    Case {
+        text: " dcc 1\n",
+        answer: Answer::Line(1),
+    },
+    Case {
+        text: "dcc 2\n",
+        answer: Answer::Line(1),
+    },
+    Case {
+        text: "dcc 01\n",
+        answer: Answer::Line(1),
+    },
+    Case {
+        text: "dcc\t1\n",
+        answer: Answer::Line(1),
+    },
+    Case {
+        text: "dcc 1\r\n",
+        answer: Answer::Line(1),
+    },
+    Case {
+        text: "dcc 1",
+        answer: Answer::Line(1),
+    },
+    Case {
+        text: "\n",
+        answer: Answer::Line(1),
+    },
+    Case {
+        text: "dcc 1\n\n",
+        answer: Answer::Line(2),
+    },
+    Case {
+        text: "Dcc 1\n",
+        answer: Answer::Line(1),
+    },
+    Case {
+        text: "dcc 1\nfunction f  void\n",
+        answer: Answer::Line(2),
+    },
+    Case {
+        text: "dcc 1\nfunction f void \n",
+        answer: Answer::Line(2),
+    },
+    Case {
+        text: "dcc 1\nfunction f void s32 \n",
+        answer: Answer::Line(2),
+    },
+    Case {
+        text: "dcc 1\nfunction 1f void\n",
+        answer: Answer::Line(2),
+    },
+    Case {
+        text: "dcc 1\nfunction .start void\n",
+        answer: Answer::Line(2),
+    },
+    Case {
+        text: "dcc 1\nfunction f.g void\n",
+        answer: Answer::Line(2),
+    },
+    Case {
+        text: "dcc 1\nfunction f\n",
+        answer: Answer::Line(2),
+    },
+    Case {
+        text: "dcc 1\nfunction f s16\n",
+        answer: Answer::Line(2),
+    },
+    Case {
+        text: "dcc 1\nfunction f void void\n",
+        answer: Answer::Line(2),
+    },
+    Case {
+        text: "dcc 1\nfunction  void\n",
+        answer: Answer::Line(2),
+    },
+    Case {
+        text: "dcc 1\nstatic g 04\n",
+        answer: Answer::Line(2),
+    },
+    Case {
+        text: "dcc 1\nstatic g -1\n",
+        answer: Answer::Line(2),
+    },
+    Case {
+        text: "dcc 1\nstatic g 18446744073709551616\n",
+        answer: Answer::Line(2),
+    },
+    Case {
+        text: "dcc 1\nstatic g\n",
+        answer: Answer::Line(2),
+    },
+    Case {
+        text: "dcc 1\nstatic g 4 4\n",
+        answer: Answer::Line(2),
+    },
+    Case {
+        text: "dcc 1\nstatic g +4\n",
+        answer: Answer::Line(2),
+    },
+    Case {
+        text: "dcc 1\nstatic g 4_\n",
+        answer: Answer::Line(2),
+    },
+    Case {
+        text: "dcc 1\nbody .stop 0 0\n",
+        answer: Answer::Line(2),
+    },
+    Case {
+        text: "dcc 1\nbody f 0\n",
+        answer: Answer::Line(2),
+    },
+    Case {
+        text: "dcc 1\nbody f 0 00\n",
+        answer: Answer::Line(2),
+    },
+    Case {
+        text: "dcc 1\nend 1\n",
+        answer: Answer::Line(2),
+    },
+    Case {
+        text: "dcc 1\nends\n",
+        answer: Answer::Line(2),
+    },
+    Case {
+        text: "function f void\nfoo\n",
+        answer: Answer::Line(2),
+    },
+    Case {
+        text: "dcc 1\nbody .start 0 1\nset 0 (u64 02)\nreturn\nend\n",
+        answer: Answer::Line(3),
+    },
+    Case {
+        text: "dcc 1\nbody .start 0 1\nset 0 (s32 -0)\nreturn\nend\n",
+        answer: Answer::Line(3),
+    },
+    Case {
+        text: "dcc 1\nbody .start 0 1\nset 0 (s32 +1)\nreturn\nend\n",
+        answer: Answer::Line(3),
+    },
+    Case {
+        text: "dcc 1\nbody .start 0 1\nset 0 (s32 --1)\nreturn\nend\n",
+        answer: Answer::Line(3),
+    },
+    Case {
+        text: "dcc 1\nbody .start 0 1\nset 0 (s32 -)\nreturn\nend\n",
+        answer: Answer::Line(3),
+    },
+    Case {
+        text: "dcc 1\nbody .start 0 1\nset 0 (s32 )\nreturn\nend\n",
+        answer: Answer::Line(3),
+    },
+    Case {
+        text: "dcc 1\nbody .start 0 1\nset 0 (s32 -170141183460469231731687303715884105729)\nreturn\nend\n",
+        answer: Answer::Line(3),
+    },
+    Case {
+        text: "dcc 1\nbody .start 0 1\nset 0 (u64 170141183460469231731687303715884105728)\nreturn\nend\n",
+        answer: Answer::Line(3),
+    },
+    Case {
+        text: "dcc 1\nbody .start 0 1\nset 0 (reg 0 )\nreturn\nend\n",
+        answer: Answer::Line(3),
+    },
+    Case {
+        text: "dcc 1\nbody .start 0 1\nset 0 ( reg 0)\nreturn\nend\n",
+        answer: Answer::Line(3),
+    },
+    Case {
+        text: "dcc 1\nbody .start 0 1\nset 0 (reg  0)\nreturn\nend\n",
+        answer: Answer::Line(3),
+    },
+    Case {
+        text: "dcc 1\nbody .start 0 1\nset 0 (reg 0\nreturn\nend\n",
+        answer: Answer::Line(3),
+    },
+    Case {
+        text: "dcc 1\nbody .start 0 1\nset 0 (reg 0))\nreturn\nend\n",
+        answer: Answer::Line(3),
+    },
+    Case {
+        text: "dcc 1\nbody .start 0 1\nset 0 reg 0\nreturn\nend\n",
+        answer: Answer::Line(3),
+    },
+    Case {
+        text: "dcc 1\nbody .start 0 1\nset 0 (add s32 (s32 1)(s32 1))\nreturn\nend\n",
+        answer: Answer::Line(3),
+    },
+    Case {
+        text: "dcc 1\nbody .start 0 1\nset 0 (add s32 (s32 1))\nreturn\nend\n",
+        answer: Answer::Line(3),
+    },
+    Case {
+        text: "dcc 1\nbody .start 0 1\nset 0 (add s32 (s32 1) (s32 1) (s32 1))\nreturn\nend\n",
+        answer: Answer::Line(3),
+    },
+    Case {
+        text: "dcc 1\nbody .start 0 1\nset 0 (add (s32 1) (s32 1))\nreturn\nend\n",
+        answer: Answer::Line(3),
+    },
+    Case {
+        text: "dcc 1\nbody .start 0 1\nset 0 (mul s32 (s32 1) (s32 1))\nreturn\nend\n",
+        answer: Answer::Line(3),
+    },
+    Case {
+        text: "dcc 1\nbody .start 0 1\nset 0 (s16 1)\nreturn\nend\n",
+        answer: Answer::Line(3),
+    },
+    Case {
+        text: "dcc 1\nbody .start 0 1\nset 0 (obj -1)\nreturn\nend\n",
+        answer: Answer::Line(3),
+    },
+    Case {
+        text: "dcc 1\nbody .start 0 1\nset 0 (load (obj 1))\nreturn\nend\n",
+        answer: Answer::Line(3),
+    },
+    Case {
+        text: "dcc 1\nbody .start 0 1\nset 00 (s32 1)\nreturn\nend\n",
+        answer: Answer::Line(3),
+    },
+    Case {
+        text: "dcc 1\nbody .start 0 1\nset - (s32 1)\nreturn\nend\n",
+        answer: Answer::Line(3),
+    },
+    Case {
+        text: "dcc 1\nbody .start 0 1\nset 0  (s32 1)\nreturn\nend\n",
+        answer: Answer::Line(3),
+    },
+    Case {
+        text: "dcc 1\nbody .start 0 1\nset 0\t(s32 1)\nreturn\nend\n",
+        answer: Answer::Line(3),
+    },
+    Case {
+        text: "dcc 1\nbody .start 0 1\nset 0 (s32 1)\r\nreturn\nend\n",
+        answer: Answer::Line(3),
+    },
+    Case {
+        text: "dcc 1\nbody .start 0 1\ncall -  f\nreturn\nend\n",
+        answer: Answer::Line(3),
+    },
+    Case {
+        text: "dcc 1\nbody .start 0 1\ncall - f \nreturn\nend\n",
+        answer: Answer::Line(3),
+    },
+    Case {
+        text: "dcc 1\nbody .start 0 1\ncall -1 f\nreturn\nend\n",
+        answer: Answer::Line(3),
+    },
+    Case {
+        text: "dcc 1\nbody .start 0 1\ncall - .start\nreturn\nend\n",
+        answer: Answer::Line(3),
+    },
+    Case {
+        text: "dcc 1\nbody .start 0 1\nreturn \nreturn\nend\n",
+        answer: Answer::Line(3),
+    },
+    Case {
+        text: "dcc 1\nbody .start 0 1\nreturn (s32 1) \nreturn\nend\n",
+        answer: Answer::Line(3),
+    },
+    Case {
+        text: "dcc 1\nbody .start 0 1\nobjects 3\nreturn\nend\n",
+        answer: Answer::Line(3),
+    },
+    Case {
+        text: "dcc 1\nbody .start 0 1\nobjects\nreturn\nend\n",
+        answer: Answer::Line(3),
+    },
+    Case {
+        text: "dcc 1\nbody .start 0 1\nlocal 0 4 chosen\nreturn\nend\n",
+        answer: Answer::Line(3),
+    },
+    Case {
+        text: "dcc 1\nbody .start 0 1\nlocal 0 4\nreturn\nend\n",
+        answer: Answer::Line(3),
+    },
+    Case {
+        text: "dcc 1\nbody .start 0 1\ngoto 0\nreturn\nend\n",
+        answer: Answer::Line(3),
+    },
+    Case {
+        text: "dcc 1\nbody .start 0 1\nseen 1\nreturn\nend\n",
+        answer: Answer::Line(3),
+    },
+    Case {
+        text: "dcc 1\nbody .start 0 1\ncheck a-b (s32 1)\nreturn\nend\n",
+        answer: Answer::Line(3),
+    },
+    Case {
+        text: "dcc 1\nbody .start 0 1\ncheck  (s32 1)\nreturn\nend\n",
+        answer: Answer::Line(3),
+    },
+    Case {
+        text: "dcc 1\nbody .start 0 1\ncheck a\nreturn\nend\n",
+        answer: Answer::Line(3),
+    },
+    Case {
+        text: "dcc 1\nbody .start 0 1\ncovers a (obj 1)\nreturn\nend\n",
+        answer: Answer::Line(3),
+    },
+    Case {
+        text: "dcc 1\nbody .start 0 1\ntrap\0\nreturn\nend\n",
+        answer: Answer::Line(3),
+    },
+    Case {
+        text: "dcc 1\nbody .start 0 1\nset 0 (s32 -170141183460469231731687303715884105728)\nreturn\nend\n",
+        answer: Answer::Shape(3),
+    },
+    Case {
+        text: "dcc 1\nbody .start 0 1\nset 0 (u64 170141183460469231731687303715884105727)\nreturn\nend\n",
+        answer: Answer::Shape(3),
+    },
+    Case {
+        text: "dcc 1\nbody .start 0 1\nset 0 (s32 2147483648)\nreturn\nend\n",
+        answer: Answer::Shape(3),
+    },
+    Case {
+        text: "dcc 1\nbody .start 0 1\nset 0 (s32 -2147483649)\nreturn\nend\n",
+        answer: Answer::Shape(3),
+    },
+    Case {
+        text: "dcc 1\nbody .start 0 1\nset 0 (u64 -1)\nreturn\nend\n",
+        answer: Answer::Shape(3),
+    },
+    Case {
+        text: "dcc 1\nbody .start 0 1\nset 0 (u64 18446744073709551616)\nreturn\nend\n",
+        answer: Answer::Shape(3),
+    },
+    Case {
+        text: "dcc 1\nbody .start 0 1\nset 1 (s32 1)\nreturn\nend\n",
+        answer: Answer::Shape(3),
+    },
+    Case {
+        text: "dcc 1\nbody .start 0 1\nset 0 (reg 1)\nreturn\nend\n",
+        answer: Answer::Shape(3),
+    },
+    Case {
+        text: "dcc 1\nbody .start 0 1\nset 0 (add s32 (s32 1) (reg 1))\nreturn\nend\n",
+        answer: Answer::Shape(3),
+    },
+    Case {
+        text: "dcc 1\nbody .start 0 1\nset 0 (load s32 (reg 1))\nreturn\nend\n",
+        answer: Answer::Shape(3),
+    },
+    Case {
+        text: "dcc 1\nbody .start 0 1\nset 0 (obj 1)\nreturn\nend\n",
+        answer: Answer::Shape(3),
+    },
+    Case {
+        text: "dcc 1\nbody .start 0 1\nstore s32 (reg 1) (s32 0)\nreturn\nend\n",
+        answer: Answer::Shape(3),
+    },
+    Case {
+        text: "dcc 1\nbody .start 0 1\ninit s32 (obj 0) (reg 1)\nreturn\nend\n",
+        answer: Answer::Shape(3),
+    },
+    Case {
+        text: "dcc 1\nbody .start 0 1\ndraw 1 s32\nreturn\nend\n",
+        answer: Answer::Shape(3),
+    },
+    Case {
+        text: "dcc 1\nbody .start 0 1\nlocal 1 4 zero\nreturn\nend\n",
+        answer: Answer::Shape(3),
+    },
+    Case {
+        text: "dcc 1\nbody .start 0 1\nlocal 0 0 zero\nreturn\nend\n",
+        answer: Answer::Shape(3),
+    },
+    Case {
+        text: "dcc 1\nbody .start 0 1\nlocal 0 16777217 zero\nreturn\nend\n",
+        answer: Answer::Shape(3),
+    },
+    Case {
+        text: "dcc 1\nbody .start 0 1\nrequire (reg 1)\nreturn\nend\n",
+        answer: Answer::Shape(3),
+    },
+    Case {
+        text: "dcc 1\nbody .start 0 1\ncheck a (reg 1)\nreturn\nend\n",
+        answer: Answer::Shape(3),
+    },
+    Case {
+        text: "dcc 1\nbody .start 0 1\ncovers a (reg 1) (u64 0)\nreturn\nend\n",
+        answer: Answer::Shape(3),
+    },
+    Case {
+        text: "dcc 1\nbody .start 0 1\ncovers a (obj 0) (reg 1)\nreturn\nend\n",
+        answer: Answer::Shape(3),
+    },
+    Case {
+        text: "dcc 1\nbody .start 0 1\nrange 0 (reg 1) (obj 0) (u64 0)\nreturn\nend\n",
+        answer: Answer::Shape(3),
+    },
+    Case {
+        text: "dcc 1\nbody .start 0 1\nrange 0 (s32 1) (reg 1) (u64 0)\nreturn\nend\n",
+        answer: Answer::Shape(3),
+    },
+    Case {
+        text: "dcc 1\nbody .start 0 1\nrange 0 (s32 1) (obj 0) (reg 1)\nreturn\nend\n",
+        answer: Answer::Shape(3),
+    },
+    Case {
+        text: "dcc 1\nbody .start 0 1\nreturn (reg 1)\nreturn\nend\n",
+        answer: Answer::Shape(3),
+    },
+    Case {
+        text: "dcc 1\nbody .start 0 1\ncall - f\nreturn\nend\n",
+        answer: Answer::Shape(3),
+    },
+    Case {
+        text: "dcc 1\nbody .start 0 1\ncall - f (s32 1)\nreturn\nend\n",
+        answer: Answer::Shape(3),
+    },
+    Case {
+        text: "dcc 1\nbody .start 0 1\nend\nreturn\nend\n",
+        answer: Answer::Shape(3),
+    },
+    Case {
+        text: "dcc 1\nbody .start 0 1\nbody .start 0 0\nreturn\nend\n",
+        answer: Answer::Shape(3),
+    },
+    Case {
+        text: "dcc 1\nbody .start 0 1\ndcc 1\nreturn\nend\n",
+        answer: Answer::Shape(3),
+    },
+    Case {
+        text: "dcc 1\nbody .start 0 1\nfunction f void\nreturn\nend\n",
+        answer: Answer::Shape(3),
+    },
+    Case {
+        text: "dcc 1\nbody .start 0 1\nstatic g 4\nreturn\nend\n",
+        answer: Answer::Shape(3),
+    },
+    Case {
+        text: "dcc 1\nbody .start 0 1\ncheck .1. (s32 1)\nreturn\nend\n",
+        answer: Answer::Scanned,
+    },
+    Case {
+        text: "dcc 1\nbody .start 0 1\nlocal 0 16777216 zero\nreturn\nend\n",
+        answer: Answer::Scanned,
+    },
+    Case {
+        text: "dcc 1\nbody .start 0 1\nlocal 0 1 zero\nreturn\nend\n",
+        answer: Answer::Scanned,
+    },
+    Case {
+        text: "dcc 1\nbody .start 0 1\nreturn\nreturn\nend\n",
+        answer: Answer::Scanned,
+    },
+    Case {
+        text: "dcc 1\nbody .start 0 1\nreturn (s32 1)\nreturn\nend\n",
+        answer: Answer::Scanned,
+    },
+    Case {
+        text: "dcc 1\nbody .start 0 1\ntrap\nreturn\nend\n",
+        answer: Answer::Scanned,
+    },
+    Case {
+        text: "",
+        answer: Answer::Shape(1),
+    },
+    Case {
+        text: "function f void\n",
+        answer: Answer::Shape(1),
+    },
+    Case {
+        text: "dcc 1\n",
+        answer: Answer::Shape(2),
+    },
+    Case {
+        text: "dcc 1\ndcc 1\n",
+        answer: Answer::Shape(2),
+    },
+    Case {
+        text: "dcc 1\nend\n",
+        answer: Answer::Shape(2),
+    },
+    Case {
+        text: "dcc 1\nreturn\n",
+        answer: Answer::Shape(2),
+    },
+    Case {
+        text: "dcc 1\nstatic g 4\nfunction f void\n",
+        answer: Answer::Shape(3),
+    },
+    Case {
+        text: "dcc 1\nfunction f void\nfunction f s32\n",
+        answer: Answer::Shape(3),
+    },
+    Case {
+        text: "dcc 1\nfunction f void\nstatic f 4\n",
+        answer: Answer::Shape(3),
+    },
+    Case {
+        text: "dcc 1\nstatic g 4\nstatic g 4\n",
+        answer: Answer::Shape(3),
+    },
+    Case {
+        text: "dcc 1\nstatic g 0\n",
+        answer: Answer::Shape(2),
+    },
+    Case {
+        text: "dcc 1\nstatic g 16777217\n",
+        answer: Answer::Shape(2),
+    },
+    Case {
+        text: "dcc 1\nstatic g 18446744073709551615\n",
+        answer: Answer::Shape(2),
+    },
+    Case {
+        text: "dcc 1\nbody g 0 0\n",
+        answer: Answer::Shape(2),
+    },
+    Case {
+        text: "dcc 1\nstatic g 4\nbody g 0 0\n",
+        answer: Answer::Shape(3),
+    },
+    Case {
+        text: "dcc 1\nfunction f void s32\nbody f 0 0\n",
+        answer: Answer::Shape(3),
+    },
+    Case {
+        text: "dcc 1\nfunction f void s32\nbody f 1 0\n",
+        answer: Answer::Shape(3),
+    },
+    Case {
+        text: "dcc 1\nbody .start 1 1\n",
+        answer: Answer::Shape(2),
+    },
+    Case {
+        text: "dcc 1\nfunction f void\nbody f 0 0\nreturn\nend\nbody f 0 0\n",
+        answer: Answer::Shape(6),
+    },
+    Case {
+        text: "dcc 1\nfunction f void\nfunction g void\nbody g 0 0\nreturn\nend\nbody f 0 0\n",
+        answer: Answer::Shape(7),
+    },
+    Case {
+        text: "dcc 1\nfunction f void\nbody .start 0 0\nreturn\nend\nbody f 0 0\nreturn\nend\n",
+        answer: Answer::Shape(6),
+    },
+    Case {
+        text: "dcc 1\nbody .start 0 0\nreturn\nend\nbody .start 0 0\n",
+        answer: Answer::Shape(5),
+    },
+    Case {
+        text: "dcc 1\nbody .start 0 0\nreturn\nend\nend\n",
+        answer: Answer::Shape(5),
+    },
+    Case {
+        text: "dcc 1\nbody .start 0 0\nseen\nend\n",
+        answer: Answer::Shape(3),
+    },
+    Case {
+        text: "dcc 1\nbody .start 0 0\nend\n",
+        answer: Answer::Shape(3),
+    },
+    Case {
+        text: "dcc 1\nbody .start 0 0\nreturn\nseen\nend\n",
+        answer: Answer::Shape(4),
+    },
+    Case {
+        text: "dcc 1\nbody .start 0 0\nreturn\nseen\n",
+        answer: Answer::Shape(4),
+    },
+    Case {
+        text: "dcc 1\nbody .start 0 0\nseen\nbody .start 0 0\n",
+        answer: Answer::Shape(3),
+    },
+    Case {
+        text: "dcc 1\nbody .start 0 0\nreturn\n",
+        answer: Answer::Shape(4),
+    },
+    Case {
+        text: "dcc 1\nbody .start 0 0\n",
+        answer: Answer::Shape(3),
+    },
+    Case {
+        text: "dcc 1\nfunction f void\nbody f 0 0\nreturn\nend\n",
+        answer: Answer::Shape(6),
+    },
+    Case {
+        text: "dcc 1\nfunction f void\nbody f 0 0\nreturn (s32 1)\nend\n",
+        answer: Answer::Shape(4),
+    },
+    Case {
+        text: "dcc 1\nfunction f s32\nbody f 0 0\nreturn\nend\n",
+        answer: Answer::Shape(4),
+    },
+    Case {
+        text: "dcc 1\nfunction f void\nbody .start 0 1\ncall 0 f\nreturn\nend\n",
+        answer: Answer::Shape(4),
+    },
+    Case {
+        text: "dcc 1\nfunction f void\nbody .start 0 1\ncall - f (s32 1)\nreturn\nend\n",
+        answer: Answer::Shape(4),
+    },
+    Case {
+        text: "dcc 1\nfunction f s32\nbody .start 0 1\ncall 1 f\nreturn\nend\n",
+        answer: Answer::Shape(4),
+    },
+    Case {
+        text: "dcc 1\nfunction f void u64\nbody .start 0 1\ncall - f (reg 1)\nreturn\nend\n",
+        answer: Answer::Shape(4),
+    },
+    Case {
+        text: "dcc 1\nstatic g 4\nbody .start 0 1\ncall - g\nreturn\nend\n",
+        answer: Answer::Shape(4),
+    },
+    Case {
+        text: "dcc 1\nfunction f void\nbody .start 0 0\ncall - f\nreturn\nend\n",
+        answer: Answer::Scanned,
+    },
+    Case {
+        text: "dcc 1\nfunction f s32\nbody .start 0 0\ncall - f\nreturn\nend\n",
+        answer: Answer::Scanned,
+    },
+    Case {
+        text: "dcc 1\nfunction f void\nbody .start 0 1\nset 0 (obj 1)\nreturn\nend\n",
+        answer: Answer::Scanned,
+    },
+    Case {
+        text: "dcc 1\nbody .start 0 0\nreturn\nend\n",
+        answer: Answer::Scanned,
+    },
+];
+
+#[test]
+fn refused(rt: HostRuntime) -> Result<(), Fail> {
+    for case in &CASES {
+        let answer = answer_to(rt.alloc(), case.text.as_bytes())?;
+        assert_eq!(rt; answer, case.answer, "{:?}", case.text);
+    }
+    assert_eq!(rt; answer_to(rt.alloc(), b"\xff\n")?, Answer::Line(1));
+    assert_eq!(rt;
+        answer_to(rt.alloc(), b"dcc 1\nfunction \xc3\xa9 void\n")?,
+        Answer::Line(2)
+    );
+    Ok(())
+}
