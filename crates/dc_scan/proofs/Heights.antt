@@ -1,5 +1,5 @@
 -- Expressions of a height, by one less.
-use Rattle.std.proofs.Common.{◌≡◌, ℕ, zero, suc, ◌-◌, ◌<◌, List, Option, None, refl, sym, ap, arith}
+use Rattle.std.proofs.Common.{◌≡◌, ℕ, zero, suc, ◌-◌, ◌<◌, List, None, refl, ap, arith}
 use Rattle.dc_goto.specs.Reading.{read_parenthesised, read_term}
 
 pub none_at : (n : ℕ) (bytes : List ℕ) → n ≡ 0 → read_term n bytes ≡ None

@@ -1,10 +1,10 @@
 -- A text is read line by line, up to its end or to the first line that has no form.
-use Rattle.std.proofs.Common.{◌≡◌, ◌≢◌, ℕ, zero, suc, ◌+◌, ◌≤◌, ◌<◌, List, [], ◌∷◌, ◌++◌, length, Option, None, Some, refl, sym, ap, subst, ◌∙◌, arith, append_assoc, append-nil, length-append, add-one}
+use Rattle.std.proofs.Common.{◌≡◌, ◌≢◌, ℕ, ◌+◌, ◌<◌, List, [], ◌∷◌, ◌++◌, length, None, refl, sym, ap, ◌∙◌, arith, append_assoc, append-nil, length-append, add-one}
 use Rattle.std.specs.Prelude.{flat_map}
 use Rattle.std.specs.List.{AllByRecursion}
 use Rattle.std.proofs.lemmas.Grind.{flat_map-append}
 use Rattle.dc_goto.specs.Lines.{Line, line_text, form_bytes, IsForm, AreLines, FirstFormless}
-use Rattle.dc_goto.specs.Reading.{Reading, got, read_line}
+use Rattle.dc_goto.specs.Reading.{got, read_line}
 use Rattle.dc_goto.proofs.Readable.{line_sound, line_complete}
 
 -- these line forms stand in front, and this behind them

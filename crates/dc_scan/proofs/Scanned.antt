@@ -1,12 +1,12 @@
 -- What is answered to the text of a program.
 use Rattle.std.proofs.Common.{◌≡◌, ℕ, List, Result, Ok, Err, refl, sym, ◌∙◌}
 use Rattle.std.specs.Prelude.{IfOk, IsErrOf, MatchResult}
-use Rattle.dc_goto.specs.Lines.{Line, forms_of, form_bytes, AreLines, FirstFormless}
+use Rattle.dc_goto.specs.Lines.{FirstFormless}
 use Rattle.dc_goto.specs.Program as plain
-use Rattle.dc_goto.specs.Shape.{first_misshapen, IsGotoText, Misshapen}
+use Rattle.dc_goto.specs.Shape.{IsGotoText, Misshapen}
 use Rattle.dc_goto.specs.View.{goto_view}
 use Rattle.dc_goto.specs.declared.program.GotoProgram.{GotoProgram}
-use Rattle.dc_goto.proofs.Spelling.{one_program, no_formless, no_misshapen, forms_text}
+use Rattle.dc_goto.proofs.Spelling.{one_program, no_formless, no_misshapen}
 use Rattle.dc_scan.specs.Scanned.{IsMemory}
 use Rattle.dc_scan.specs.declared.fault.Scan.{Scan}
 use Rattle.dc_scan.specs.declared.fault.Scan.TheVariants as fault

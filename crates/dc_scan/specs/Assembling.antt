@@ -1,5 +1,5 @@
 -- The program that lines make, one after another.
-use Rattle.std.specs.Prelude.{ℕ, List, [], ◌∷◌, ◌++◌, Option, None, Some}
+use Rattle.std.specs.Prelude.{List, [], ◌∷◌, ◌++◌, Option, None, Some}
 use Rattle.dc_goto.specs.Program.{Instr, Sig, StaticVar, Body, GotoProgram}
 use Rattle.dc_goto.specs.Lines.{BodyHead, Line, Version, Function, Static, Opening, Instruction, End}
 

@@ -1,7 +1,6 @@
-use Rattle.std.proofs.Common.{◌≡◌, ◌<◌, IfOk, IsErrOf, None, sym, subst, ◌∙◌, arith}
+use Rattle.std.proofs.Common.{◌≡◌, ◌<◌, IfOk, sym, subst, ◌∙◌, arith}
 use Rattle.dc_core.specs.View.{term_view}
 use Rattle.dc_goto.specs.Reading.{got}
-use Rattle.dc_scan.specs.declared.form.Form.TheVariants.{NoForm}
 use Rattle.dc_scan.proofs.Heights.{none_at, term_at}
 use Rattle.dc_scan.proofs.expressions.+term.Goals as goal
 

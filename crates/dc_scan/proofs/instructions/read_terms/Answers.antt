@@ -1,4 +1,4 @@
-use Rattle.std.proofs.Common.{◌≡◌, List, [], ◌∷◌, ◌++◌, map, sym, subst, ap, ◌∙◌, rules}
+use Rattle.std.proofs.Common.{[], ◌∷◌, map, sym, subst, ap, ◌∙◌, rules}
 use Rattle.std.proofs.lemmas.List.{map-append}
 use Rattle.dc_core.specs.View.{term_view}
 use Rattle.dc_goto.specs.Reading.{read_low}

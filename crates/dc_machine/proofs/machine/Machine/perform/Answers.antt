@@ -1,0 +1,10 @@
+use Rattle.dc_machine.specs.Step.{running}
+use Rattle.dc_machine.specs.Linked.{linked_view}
+use Rattle.dc_machine.proofs.Parts.{alone-step}
+use Rattle.dc_machine.proofs.machine.Machine.perform.Goals as goal
+
+pub returns-in-Call : goal.returns-in-Call
+returns-in-Call g c = rw c.in-Call.is (alone-step running _ _ c.call.result _ _ _ (rw (c.as_slice.ensures, c.as_slice-in-Call.ensures) at c.call.ensures))
+
+pub returns-in-Return : goal.returns-in-Return
+returns-in-Return g c = rw c.in-Return.is (alone-step running _ _ c.return_value.result _ _ _ (c.return_value.ensures (linked_view c.args.p.now)))

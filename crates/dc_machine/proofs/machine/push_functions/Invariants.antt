@@ -1,0 +1,8 @@
+use Rattle.std.proofs.Common.{◌≡◌, ◌++◌}
+use Rattle.std.specs.Prelude.{replicate}
+use Rattle.dc_core.specs.Memory.{function_object}
+use Rattle.dc_world.specs.View.{memory_view}
+use Rattle.dc_machine.proofs.machine.push_functions.Given as goal
+
+abbrev pub invariant-loop-at : goal.invariant-loop-at
+invariant-loop-at l = memory_view l.memory ≡ memory_view l.initial.memory ++ replicate l._at function_object

@@ -1,0 +1,6 @@
+pub mod View
+pub mod Step
+pub mod Written
+pub mod Index
+pub mod Linked
+pub mod Report

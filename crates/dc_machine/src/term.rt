@@ -1,0 +1,97 @@
+// The values of expressions.
+ghost use Rattle.std.specs.Prelude.{◌≡◌, pos, map, Some, slice_get, IfOk, option_map};
+ghost use Rattle.dc_core.specs.Memory.{start_of};
+ghost use Rattle.dc_core.specs.Contract.{holds as value_holds};
+ghost use Rattle.dc_core.specs.View.{term_view};
+ghost use Rattle.dc_goto.specs.Machine.{register_value, operated, term_value as value_of, natural_value as natural_of, term_values as values_of};
+ghost use Rattle.dc_world.specs.View.{memory_view};
+
+use dc_core::{BinOp, NumKind, Term};
+use dc_world::{Memory, compute, convert, natural_bits};
+use sqlite_items::at;
+use std::alloc::{AllocError, Global};
+
+// What the register holds.
+fn register(regs: &[Option<i128>], number: u64) -> Option<i128>
+    ensures { result ≡ register_value (slice_get regs.now number) }
+{
+    match at(regs, number as usize) {
+        None => None,
+        Some(held) => *held,
+    }
+}
+
+// The pointer to the start of an object.
+#[tactic(auto, unfolding(dc_core::specs::Memory::start_of))]
+pub fn start(number: u64) -> i128
+    ensures { result ≡ pos (start_of number) }
+{
+    number as i128 * 281474976710656
+}
+
+// What an operator makes of two values, which are converted to its kind.
+fn operate(op: BinOp, kind: NumKind, a: i128, b: i128) -> Option<i128>
+    ensures { result ≡ operated op kind (Some a) (Some b) }
+{
+    compute(op, kind, convert(kind, a), convert(kind, b))
+}
+
+/// The value of an expression, where it has one.
+pub fn term_value(regs: &[Option<i128>], memory: &Memory, term: &Term) -> Option<i128>
+    ensures { result ≡ value_of regs.now (memory_view memory.now) (term_view term.now) }
+{
+    match term {
+        Term::Constant(_, z) => Some(*z),
+        Term::Register(number) => register(regs, *number),
+        Term::Object(number) => Some(start(*number)),
+        Term::Load(kind, place) => {
+            let place = term_value(regs, memory, place.get())?;
+            memory.load(*kind, natural_bits(NumKind::U64, place))
+        }
+        Term::Binary(op, kind, a, b) => {
+            let a = term_value(regs, memory, a.get())?;
+            let b = term_value(regs, memory, b.get())?;
+            operate(*op, *kind, a, b)
+        }
+    }
+}
+
+/// The value of an expression as a pointer or a length, where it has one.
+pub fn natural_value(regs: &[Option<i128>], memory: &Memory, term: &Term) -> Option<u64>
+    ensures { result ≡ natural_of regs.now (memory_view memory.now) (term_view term.now) }
+{
+    match term_value(regs, memory, term) {
+        None => None,
+        Some(z) => Some(natural_bits(NumKind::U64, z)),
+    }
+}
+
+/// Whether the value holds: there is one, and it isn't 0.
+pub fn holds(value: Option<i128>) -> bool
+    ensures { result ≡ value_holds value }
+{
+    match value {
+        None => false,
+        Some(z) => z != 0,
+    }
+}
+
+/// The values of all expressions as registers hold them, where each has one.
+pub fn term_values(
+    alloc: Global,
+    regs: &[Option<i128>],
+    memory: &Memory,
+    terms: &[Term],
+) -> Result<Option<Vec<Option<i128>>>, AllocError>
+    ensures { IfOk result (λ o. option_map (λ v. v.items) o ≡ option_map (map Some) (values_of regs.now (memory_view memory.now) (map term_view terms.now))) }
+{
+    let mut values = Vec::new(alloc);
+    for term in terms {
+        let held = term_value(regs, memory, term);
+        match held {
+            None => return Ok(None),
+            Some(_) => values.push(held)?,
+        }
+    }
+    Ok(Some(values))
+}

@@ -1,0 +1,148 @@
+// Goto programs by hand.
+use dc_core::{BinOp, Name, NumKind, Term};
+use dc_goto::{Body, GotoProgram, Instr, Sig, StaticVar};
+use sqlite_items::{Boxed, Items};
+use std::alloc::{AllocError, Global};
+
+fn name(alloc: Global, text: &str) -> Result<Name, AllocError> {
+    Name::copied(alloc, text.as_bytes())
+}
+
+fn int(z: i128) -> Term {
+    Term::Constant(NumKind::S32, z)
+}
+
+fn word(z: i128) -> Term {
+    Term::Constant(NumKind::U64, z)
+}
+
+fn load(alloc: Global, place: Term) -> Result<Term, AllocError> {
+    Ok(Term::Load(NumKind::S32, Boxed::new(alloc, place)?))
+}
+
+fn binary(alloc: Global, op: BinOp, a: Term, b: Term) -> Result<Term, AllocError> {
+    let a = Boxed::new(alloc, a)?;
+    let b = Boxed::new(alloc, b)?;
+    Ok(Term::Binary(op, NumKind::S32, a, b))
+}
+
+fn body(
+    alloc: Global,
+    text: &str,
+    params: u64,
+    regs: u64,
+    code: Items<Instr>,
+) -> Result<Body, AllocError> {
+    Ok(Body {
+        name: name(alloc, text)?,
+        params,
+        regs,
+        code,
+    })
+}
+
+// The body of a function that writes its argument and one more to the object 2.
+fn set_body(alloc: Global) -> Result<Body, AllocError> {
+    let mut code = Items::new(alloc);
+    code.push(Instr::LocalZero(1, 4))?;
+    code.push(Instr::Init(NumKind::S32, Term::Register(1), Term::Register(0)))?;
+    code.push(Instr::Set(
+        2,
+        binary(alloc, BinOp::Add, load(alloc, Term::Register(1))?, int(1))?,
+    ))?;
+    code.push(Instr::Covers(name(alloc, "set.assigns.1")?, Term::Object(2), word(4)))?;
+    code.push(Instr::Store(NumKind::S32, Term::Object(2), Term::Register(2)))?;
+    code.push(Instr::Return(None))?;
+    body(alloc, "set", 1, 3, code)
+}
+
+// A call of it with a drawn argument, which is below `below`, where it may write to the object `target`, and after which
+// the object 2 must hold `more` than the argument.
+fn set_start(alloc: Global, below: i128, target: u64, more: i128) -> Result<Body, AllocError> {
+    let mut code = Items::new(alloc);
+    code.push(Instr::Statics)?;
+    code.push(Instr::OutsideObjects)?;
+    code.push(Instr::Draw(0, NumKind::S32))?;
+    code.push(Instr::Seen)?;
+    code.push(Instr::Require(binary(alloc, BinOp::Lt, Term::Register(0), int(below))?))?;
+    code.push(Instr::Push)?;
+    code.push(Instr::Range(1, int(1), Term::Object(target), word(4)))?;
+    let mut arguments = Items::new(alloc);
+    arguments.push(Term::Register(0))?;
+    code.push(Instr::Call(None, name(alloc, "set")?, arguments))?;
+    code.push(Instr::Seen)?;
+    let after = binary(alloc, BinOp::Add, Term::Register(0), int(more))?;
+    let test = binary(alloc, BinOp::Eq, load(alloc, Term::Object(2))?, after)?;
+    code.push(Instr::Check(name(alloc, "set.postcondition.1")?, test))?;
+    code.push(Instr::Pop)?;
+    code.push(Instr::Return(None))?;
+    body(alloc, ".start", 0, 1, code)
+}
+
+// A program with one function `set`, one variable, and these bodies.
+fn program(alloc: Global, bodies: Items<Body>) -> Result<GotoProgram, AllocError> {
+    let mut params = Items::new(alloc);
+    params.push(NumKind::S32)?;
+    let mut functions = Items::new(alloc);
+    functions.push(Sig {
+        name: name(alloc, "set")?,
+        result: None,
+        params,
+    })?;
+    let mut statics = Items::new(alloc);
+    statics.push(StaticVar {
+        name: name(alloc, "g")?,
+        size: 4,
+    })?;
+    Ok(GotoProgram {
+        functions,
+        statics,
+        bodies,
+    })
+}
+
+/// The function's body and its call, where the argument is below `below`, the object `target` may be written, and the
+/// variable must hold `more` than the argument.
+pub fn set_program(
+    alloc: Global,
+    below: i128,
+    target: u64,
+    more: i128,
+) -> Result<GotoProgram, AllocError> {
+    let mut bodies = Items::new(alloc);
+    bodies.push(set_body(alloc)?)?;
+    bodies.push(set_start(alloc, below, target, more)?)?;
+    program(alloc, bodies)
+}
+
+/// The call alone, without the function's body.
+pub fn bodiless_program(alloc: Global) -> Result<GotoProgram, AllocError> {
+    let mut bodies = Items::new(alloc);
+    bodies.push(set_start(alloc, 100, 2, 1)?)?;
+    program(alloc, bodies)
+}
+
+/// A start that calls itself.
+pub fn endless_program(alloc: Global) -> Result<GotoProgram, AllocError> {
+    let mut code = Items::new(alloc);
+    code.push(Instr::Call(None, name(alloc, ".start")?, Items::new(alloc)))?;
+    let mut bodies = Items::new(alloc);
+    bodies.push(body(alloc, ".start", 0, 0, code)?)?;
+    program(alloc, bodies)
+}
+
+/// A start that adds 1 to a drawn int.
+pub fn adding_program(alloc: Global) -> Result<GotoProgram, AllocError> {
+    let mut code = Items::new(alloc);
+    code.push(Instr::Draw(0, NumKind::S32))?;
+    code.push(Instr::Set(1, binary(alloc, BinOp::Add, Term::Register(0), int(1))?))?;
+    code.push(Instr::Return(Some(Term::Register(1))))?;
+    let mut bodies = Items::new(alloc);
+    bodies.push(body(alloc, ".start", 0, 2, code)?)?;
+    program(alloc, bodies)
+}
+
+/// A program without a start.
+pub fn startless_program(alloc: Global) -> Result<GotoProgram, AllocError> {
+    program(alloc, Items::new(alloc))
+}

@@ -1,0 +1,7 @@
+pub mod View
+pub mod Stored
+pub mod Told
+pub mod Log
+pub mod Drawing
+pub mod Sets
+pub mod Report

@@ -1,0 +1,179 @@
+// The objects that are drawn before anything of a program runs.
+ghost use Rattle.std.specs.Prelude.{◌≡◌, suc, length};
+ghost use Rattle.dc_core.specs.Event.{Create};
+ghost use Rattle.dc_core.specs.Entry.{static_objects as drawn_statics, live_object as drawn_live, outside_object as drawn_outside, with_outside as drawn_with_outside};
+ghost use Rattle.dc_core.specs.Memory.{dead};
+ghost use Rattle.dc_world.specs.Told.{supply, happens};
+ghost use Rattle.dc_world.specs.Log.{hearing};
+ghost use Rattle.dc_world.specs.Drawing.{IsDrawing, next_object as drawn_next, with_objects};
+ghost use Rattle.dc_world.specs.View.{kind_view, object_view, objects_view, memory_view};
+
+use crate::draws::{draw, draw_bytes};
+use crate::log::Log;
+use crate::memory::Memory;
+use crate::object::{ObjKind, Object};
+use dc_choice::{Chooser, Watch};
+use dc_text::Event;
+use std::alloc::{AllocError, Global};
+
+/// Draws the variables of file scope of these sizes, each byte of them.
+pub fn static_objects<C: Chooser, W: Watch>(
+    alloc: Global,
+    sizes: &[u64],
+    chooser: &mut C,
+    used: &mut Vec<u64>,
+    watch: &mut W,
+    log: &mut Log,
+) -> Result<Option<Vec<Object>>, AllocError>
+    ensures { IsDrawing (λ objects. objects_view objects.items) (drawn_statics sizes.now) result
+        (supply (C.left chooser.old) (C.given chooser.old) (C.dry chooser.old) used.old.items)
+        (supply (C.left chooser.new) (C.given chooser.new) (C.dry chooser.new) used.new.items)
+        (hearing (W.records watch.old) (W.parts watch.old) log.old)
+        (hearing (W.records watch.new) (W.parts watch.new) log.new) }
+{
+    let mut objects = Vec::new(alloc);
+    for size in sizes {
+        objects.try_reserve(1)?;
+        let Some(bytes) = draw_bytes(alloc, *size, chooser, used, watch, log)? else {
+            return Ok(None);
+        };
+        objects.push_reserved(Object::holding(ObjKind::Static, bytes));
+    }
+    Ok(Some(objects))
+}
+
+// Draws a live object of this number: its size, then its bytes.
+fn live_object<C: Chooser, W: Watch>(
+    alloc: Global,
+    number: u64,
+    kind: ObjKind,
+    chooser: &mut C,
+    used: &mut Vec<u64>,
+    watch: &mut W,
+    log: &mut Log,
+) -> Result<Option<Object>, AllocError>
+    ensures { IsDrawing object_view (drawn_live number (kind_view kind)) result
+        (supply (C.left chooser.old) (C.given chooser.old) (C.dry chooser.old) used.old.items)
+        (supply (C.left chooser.new) (C.given chooser.new) (C.dry chooser.new) used.new.items)
+        (hearing (W.records watch.old) (W.parts watch.old) log.old)
+        (hearing (W.records watch.new) (W.parts watch.new) log.new) }
+{
+    let Some(size) = draw(16777217, chooser, used, watch, log)? else {
+        return Ok(None);
+    };
+    log.tell(watch, Event::Create(number));
+    let Some(bytes) = draw_bytes(alloc, size, chooser, used, watch, log)? else {
+        return Ok(None);
+    };
+    Ok(Some(Object::holding(kind, bytes)))
+}
+
+// Draws an object of this number, of the sort that was drawn for it.
+fn outside_object<C: Chooser, W: Watch>(
+    alloc: Global,
+    number: u64,
+    sort: u64,
+    chooser: &mut C,
+    used: &mut Vec<u64>,
+    watch: &mut W,
+    log: &mut Log,
+) -> Result<Option<Object>, AllocError>
+    ensures { IsDrawing object_view (drawn_outside number sort) result
+        (supply (C.left chooser.old) (C.given chooser.old) (C.dry chooser.old) used.old.items)
+        (supply (C.left chooser.new) (C.given chooser.new) (C.dry chooser.new) used.new.items)
+        (hearing (W.records watch.old) (W.parts watch.old) log.old)
+        (hearing (W.records watch.new) (W.parts watch.new) log.new) }
+{
+    match sort {
+        0 => Ok(Some(dead_object(alloc, number, ObjKind::Heap, watch, log))),
+        1 => Ok(Some(dead_object(alloc, number, ObjKind::Stack, watch, log))),
+        2 => live_object(alloc, number, ObjKind::Heap, chooser, used, watch, log),
+        _ => live_object(alloc, number, ObjKind::Stack, chooser, used, watch, log),
+    }
+}
+
+// A dead object of this number.
+fn dead_object<W: Watch>(
+    alloc: Global,
+    number: u64,
+    kind: ObjKind,
+    watch: &mut W,
+    log: &mut Log,
+) -> Object
+    ensures seen { object_view result ≡ dead (kind_view kind) }
+    ensures told { hearing (W.records watch.new) (W.parts watch.new) log.new
+        ≡ happens (Create number) (hearing (W.records watch.old) (W.parts watch.old) log.old) }
+{
+    log.tell(watch, Event::Create(number));
+    Object::dead(alloc, kind)
+}
+
+// Draws an object behind the others: its sort, then what the sort asks for.
+fn next_object<C: Chooser, W: Watch>(
+    alloc: Global,
+    number: u64,
+    chooser: &mut C,
+    used: &mut Vec<u64>,
+    watch: &mut W,
+    log: &mut Log,
+) -> Result<Option<Object>, AllocError>
+    ensures { IsDrawing object_view (drawn_next number) result
+        (supply (C.left chooser.old) (C.given chooser.old) (C.dry chooser.old) used.old.items)
+        (supply (C.left chooser.new) (C.given chooser.new) (C.dry chooser.new) used.new.items)
+        (hearing (W.records watch.old) (W.parts watch.old) log.old)
+        (hearing (W.records watch.new) (W.parts watch.new) log.new) }
+{
+    let Some(sort) = draw(4, chooser, used, watch, log)? else {
+        return Ok(None);
+    };
+    outside_object(alloc, number, sort, chooser, used, watch, log)
+}
+
+// Draws that many objects behind those of the memory.
+fn outside_objects<C: Chooser, W: Watch>(
+    alloc: Global,
+    memory: &mut Memory,
+    count: u64,
+    chooser: &mut C,
+    used: &mut Vec<u64>,
+    watch: &mut W,
+    log: &mut Log,
+) -> Result<Option<()>, AllocError>
+    ensures { IsDrawing (λ u. memory_view memory.new) (with_objects (memory_view memory.old) count) result
+        (supply (C.left chooser.old) (C.given chooser.old) (C.dry chooser.old) used.old.items)
+        (supply (C.left chooser.new) (C.given chooser.new) (C.dry chooser.new) used.new.items)
+        (hearing (W.records watch.old) (W.parts watch.old) log.old)
+        (hearing (W.records watch.new) (W.parts watch.new) log.new) }
+{
+    for _at in 0..count {
+        let number = memory.count() + 1;
+        let Some(object) = next_object(alloc, number, chooser, used, watch, log)? else {
+            return Ok(None);
+        };
+        memory.push(object)?;
+    }
+    Ok(Some(()))
+}
+
+/// Draws outside objects behind those of the memory, their count first.
+#[tactic(auto, unfolding(dc_core::specs::Entry::with_outside))]
+pub fn with_outside<C: Chooser, W: Watch>(
+    alloc: Global,
+    memory: &mut Memory,
+    chooser: &mut C,
+    used: &mut Vec<u64>,
+    watch: &mut W,
+    log: &mut Log,
+) -> Result<Option<()>, AllocError>
+    ensures { IsDrawing (λ u. memory_view memory.new) (drawn_with_outside (memory_view memory.old)) result
+        (supply (C.left chooser.old) (C.given chooser.old) (C.dry chooser.old) used.old.items)
+        (supply (C.left chooser.new) (C.given chooser.new) (C.dry chooser.new) used.new.items)
+        (hearing (W.records watch.old) (W.parts watch.old) log.old)
+        (hearing (W.records watch.new) (W.parts watch.new) log.new) }
+{
+    let most = 65536_u64.saturating_sub(memory.count());
+    let Some(count) = draw(most as u128, chooser, used, watch, log)? else {
+        return Ok(None);
+    };
+    outside_objects(alloc, memory, count, chooser, used, watch, log)
+}
