@@ -1,49 +1,22 @@
 -- What a whole run's notes come to.
-use Rattle.std.proofs.Common.{◌≡◌, ℕ, ◌-◌, List, [], ◌∷◌, ◌++◌, length, map, Option, Some, None, refl, ap, sym, ◌∙◌, subst, arith, append_assoc, append-nil}
-use Rattle.std.specs.Prelude.{Result, Ok, Err, IfOk, OnErr, flat_map, codes, slice_get}
+use Rattle.std.proofs.Common.{◌≡◌, ℕ, ◌-◌, List, [], ◌++◌, length, map, Some, None, refl, ap, sym, ◌∙◌, subst, arith}
+use Rattle.std.specs.Prelude.{Result, Ok, Err, IfOk, IfSome, OnErr, flat_map, codes, slice_get}
 use Rattle.dc_core.specs.Event as plain
-use Rattle.dc_core.specs.Outcome.{Outcome}
-use Rattle.dc_core.specs.Run.{Note, Did, Failed, seen, event_of, name_of}
+use Rattle.dc_core.specs.Run.{seen, event_of, name_of}
 use Rattle.dc_core.specs.World.{World}
 use Rattle.dc_goto.specs.Program.{Body, GotoProgram}
 use Rattle.dc_goto.specs.Machine.{Machine, Run, Going, Stopped, go_on, steps, start, seen_run, goto_run, body_of, first_world, first_registers}
 use Rattle.dc_text.specs.Counted.{all_counted, no_counts, raised}
 use Rattle.dc_choice.specs.Chosen.{Used}
-use Rattle.dc_choice.specs.Heard.{Record, hears, hears_all}
-use Rattle.dc_world.specs.Told.{Supply, IsTaken, Hearing, noted, told, spoken}
+use Rattle.dc_choice.specs.Heard.{hears_all}
+use Rattle.dc_world.specs.Told.{Supply, IsTaken, Hearing, spoken}
 use Rattle.dc_world.specs.Report.{end_view}
+use Rattle.dc_world.specs.Reported.{IsCutShort, IsReport, dry_at}
+use Rattle.dc_world.proofs.Reported.{told-failed, told-counts, told-records, told-parts, events-append, none_left, run-whole}
 use Rattle.dc_world.specs.declared.report.End.{End}
-use Rattle.dc_machine.specs.Report.{IsCutShort, IsReport}
 use Rattle.dc_machine.specs.View.{name_at, code_at}
-use Rattle.dc_machine.specs.Step.{HasRun, IsRun, IsCutOff, running, notes_run, dry_at}
-
-told-failed : (notes : List Note) (h : Hearing) → (told notes h).failed ≡ h.failed ++ flat_map name_of notes
-told-failed [] h = sym (append-nil h.failed)
-told-failed (Did event ∷ notes) h = told-failed notes (noted (Did event) h)
-told-failed (Failed name ∷ notes) h = told-failed notes (noted (Failed name) h) ∙ append_assoc h.failed (name ∷ []) (flat_map name_of notes)
-
-told-counts : (notes : List Note) (h : Hearing) → (told notes h).counts ≡ all_counted (map spoken (flat_map event_of notes)) h.counts
-told-counts [] h = refl
-told-counts (Did event ∷ notes) h = told-counts notes (noted (Did event) h)
-told-counts (Failed name ∷ notes) h = told-counts notes (noted (Failed name) h)
-
-hears-nothing : (rs : List Record) → rs ≡ map (hears_all []) rs
-hears-nothing [] = refl
-hears-nothing (r ∷ rs) = ap (λ l. r ∷ l) (hears-nothing rs)
-
-hears-map : (es : List plain.Event) (e : plain.Event) (rs : List Record) → map (hears_all (map spoken es)) (map (hears (spoken e)) rs) ≡ map (hears_all (map spoken (e ∷ es))) rs
-hears-map es e [] = refl
-hears-map es e (r ∷ rs) = ap (λ l. hears_all (map spoken es) (hears (spoken e) r) ∷ l) (hears-map es e rs)
-
-told-records : (notes : List Note) (h : Hearing) → (told notes h).records ≡ map (hears_all (map spoken (flat_map event_of notes))) h.records
-told-records [] h = hears-nothing h.records
-told-records (Did event ∷ notes) h = told-records notes (noted (Did event) h) ∙ hears-map (flat_map event_of notes) event h.records
-told-records (Failed name ∷ notes) h = told-records notes (noted (Failed name) h)
-
-pub told-parts : (notes : List Note) (h : Hearing) → (told notes h).parts ≡ h.parts
-told-parts [] h = refl
-told-parts (Did event ∷ notes) h = told-parts notes (noted (Did event) h)
-told-parts (Failed name ∷ notes) h = told-parts notes (noted (Failed name) h)
+use Rattle.dc_machine.proofs.Longer.{run_longer}
+use Rattle.dc_machine.specs.Step.{HasRun, IsRun, IsCutOff, running, notes_run}
 
 -- a run from the start
 abbrev pub whole : GotoProgram → ℕ → List ℕ → Run
@@ -58,6 +31,7 @@ pub record Reported (p : GotoProgram) (n : ℕ) (used : List ℕ) (end : plain.E
   pub left : Used s.left s'.left used
   pub given : s'.given ≡ raised s.given (length used)
   pub dry : s'.dry ≡ raised s.dry (dry_at end)
+  pub ended : end ≡ plain.ChoicesEnded → IfSome s'.left (λ rest. rest ≡ [])
   pub heard : h'.records ≡ map (hears_all (map spoken (goto_run p n used).events)) h.records
   pub parts : h'.parts ≡ h.parts
 
@@ -77,13 +51,10 @@ reported p n end s s' h h' empty none zeros a =
       left = subst (λ u. Used s.left s'.left u) (sym same) a.taken.left;
       given = a.taken.given ∙ ap (λ u. raised s.given (length u)) (sym same);
       dry = a.taken.dry;
+      ended = none_left end a.numbers s s' a.taken;
       heard = records ∙ ap (λ es. map (hears_all (map spoken es)) h.records) (sym (ap (λ o. o.events) outcome));
       parts = ap (λ k. k.parts) a.heard ∙ told-parts a.notes h;
     }
-
-events-append : (xs ys : List Note) → flat_map event_of (xs ++ ys) ≡ flat_map event_of xs ++ flat_map event_of ys
-events-append [] ys = refl
-events-append (x ∷ xs) ys = ap (λ l. event_of x ++ l) (events-append xs ys) ∙ sym (append_assoc (event_of x) (flat_map event_of xs) (flat_map event_of ys))
 
 seen-events : (choices : List ℕ) (r : Run) → (seen_run choices r).events ≡ flat_map event_of (notes_run r)
 seen-events choices (Going notes m) = refl
@@ -102,10 +73,6 @@ cut_short p n s s' h h' a = record {
 
 pub parts_kept : (p : GotoProgram) (n : ℕ) (s s' : Supply) (h h' : Hearing) → IsCutOff running (whole p n) s s' h h' → h'.parts ≡ h.parts
 parts_kept p n s s' h h' a = ap (λ k. k.parts) a.heard ∙ told-parts a.notes h
-
--- nothing was taken and nothing told
-pub cut_at_once : (run : List ℕ → Outcome) (left : Option (List ℕ)) (records : List Record) → Used left left [] → IsCutShort run left left records records
-cut_at_once run left records u = record { numbers = []; events = []; front = λ rest. ((run rest).events, refl); taken = u; heard = hears-nothing records }
 
 -- the run of a program that doesn't begin
 pub run_named : {E : Type 0} (run : List ℕ → Run) (end : End) (w : World) (r : Result End E) (s : Supply) (h : Hearing)
@@ -130,7 +97,18 @@ pub report_of : (p : GotoProgram) (n : ℕ) (used : List ℕ) (end : End) (s s' 
 report_of p n used end s s' h h' f empty none zeros a =
     let r = reported p n (end_view end) s s' h h' empty none zeros a in
     subst (λ u. IsReport (goto_run p n) (record { failed = h'.failed; end = end; used = u; counts = h'.counts }) s.left s'.left s.given s'.given s.dry s'.dry h.records h'.records) (sym f)
-    (record { failed = r.names; ends = r.ends; taken = r.taken; counts = r.counts; used = r.left; given = r.given; dry = r.dry; heard = r.heard })
+    (record {
+      failed = r.names;
+      ends = r.ends;
+      taken = r.taken;
+      counts = r.counts;
+      whole = run-whole (goto_run p n) (end_view end) s'.used s.left s'.left r.left r.ended (λ rest m. run_longer p n s'.used rest (λ e. m (r.ends ∙ e)));
+      used = r.left;
+      given = r.given;
+      dry = r.dry;
+      ended = r.ended;
+      heard = r.heard;
+    })
 
 -- the parts are those that they were after a whole run too
 pub parts_after : (p : GotoProgram) (n : ℕ) (end : plain.End) (s s' : Supply) (h h' : Hearing) → HasRun (whole p n) end s s' h h' → h'.parts ≡ h.parts

@@ -4,4 +4,5 @@ pub mod Terms
 pub mod Draws
 pub mod Acts
 pub mod Calls
+pub mod Longer
 pub mod Final

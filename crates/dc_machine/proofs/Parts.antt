@@ -11,7 +11,8 @@ use Rattle.dc_world.specs.Told.{Supply, IsTaken, Hearing, told}
 use Rattle.dc_world.specs.Report.{end_view}
 use Rattle.dc_world.specs.declared.report.End.{End}
 use Rattle.dc_world.proofs.Drawing.{IsTaken-none, IsTaken-join, told-append}
-use Rattle.dc_machine.specs.Step.{Form, dry_at, GoesOn, HasEnded, IsCutOff, IsStep, IsAlone, HasRun, IsRun, notes_then, acting, notes_run, running}
+use Rattle.dc_world.specs.Reported.{dry_at}
+use Rattle.dc_machine.specs.Step.{Form, GoesOn, HasEnded, IsCutOff, IsStep, IsAlone, HasRun, IsRun, notes_then, acting, notes_run, running}
 
 -- what takes no number
 pub alone-step : {X Y E : Type 0} (form : Form X Y) (run : List ℕ → Y) (state : List ℕ → X) (r : Result (Option End) E) (s : Supply) (h h' : Hearing)

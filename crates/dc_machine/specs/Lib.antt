@@ -3,4 +3,3 @@ pub mod Step
 pub mod Written
 pub mod Index
 pub mod Linked
-pub mod Report

@@ -7,6 +7,7 @@ use Rattle.dc_goto.specs.Program.{Instr, Set, Store, Init, LocalZero, Covers, Ca
 use Rattle.dc_goto.specs.Machine as machine
 use Rattle.dc_world.specs.Told.{Supply, IsTaken, Hearing, told}
 use Rattle.dc_world.specs.Report.{end_view}
+use Rattle.dc_world.specs.Reported.{dry_at}
 use Rattle.dc_world.specs.declared.report.End.{End}
 
 -- how a definition says that something goes on in a state, or has ended, and what was noted
@@ -14,17 +15,6 @@ pub record Form (X Y : Type 0) : Type 0 where
   pub goes : List Note → X → Y
   pub ends : List Note → plain.End → World → Y
   pub notes : Y → List Note
-
--- how often there was no number, at an end
-abbrev pub dry_at : plain.End → ℕ
-dry_at (plain.Returned result) = 0
-dry_at plain.Blocked = 0
-dry_at (plain.Undefined function) = 0
-dry_at (plain.NoBody function) = 0
-dry_at plain.ObjectLimit = 0
-dry_at plain.DepthLimit = 0
-dry_at plain.ChoicesEnded = 1
-dry_at plain.Cut = 0
 
 -- it goes on, whatever follows the numbers that were taken
 pub record GoesOn {X Y : Type 0} (form : Form X Y) (run : List ℕ → Y) (state : List ℕ → X) (s s' : Supply) (h h' : Hearing) : Type 0 where

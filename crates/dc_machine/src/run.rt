@@ -1,18 +1,18 @@
 // Runs.
-ghost use Rattle.std.specs.Prelude.{◌≡◌, ◌++◌, [], ℕ, List, map, length, codes, IfOk, OnErr};
-ghost use Rattle.dc_core.specs.Event as plain;
+ghost use Rattle.std.specs.Prelude.{◌≡◌, ◌++◌, [], ℕ, List, map, length, codes, IfOk, IfSome, OnErr};
+ghost use Rattle.dc_core.specs.Event.{ChoicesEnded};
 ghost use Rattle.dc_goto.specs.Machine.{steps as plain_steps, start, go_on, Going, goto_run};
 ghost use Rattle.dc_goto.specs.Program as goto;
 ghost use Rattle.dc_goto.specs.View.{goto_view};
 ghost use Rattle.dc_machine.specs.Linked.{linked_view, IsLinked};
-ghost use Rattle.dc_machine.specs.Report.{IsCutShort, IsReport};
-ghost use Rattle.dc_machine.specs.Step.{IsRun, dry_at};
+ghost use Rattle.dc_machine.specs.Step.{IsRun};
 ghost use Rattle.dc_machine.specs.View.{machine_view};
 ghost use Rattle.dc_choice.specs.Chosen.{Used};
 ghost use Rattle.dc_choice.specs.Heard.{hears_all};
 ghost use Rattle.dc_text.specs.Counted.{all_counted, no_counts, raised};
 ghost use Rattle.dc_world.specs.Log.{hearing};
 ghost use Rattle.dc_world.specs.Report.{end_view};
+ghost use Rattle.dc_world.specs.Reported.{IsCutShort, IsReport, dry_at};
 ghost use Rattle.dc_world.specs.Told.{supply, spoken};
 
 use crate::machine::Machine;
@@ -115,8 +115,11 @@ fn run_program<C: Chooser, W: Watch>(
     })
 }
 
-/// Runs a program for at most that many steps, on the numbers that a chooser gives, and tells a watch what happens. The
-/// report is the run on the numbers that it took.
+/// Runs a program for at most that many steps, on the numbers that a chooser gives, and tells a watch what happens.
+///
+/// The report is the run on the numbers that it took; where the chooser tells the numbers to come, the run on all of them
+/// is the same. The room for a number is taken before the number, so that none is lost where memory is wanting: then the
+/// watch has heard the first events of the run on those that were taken.
 pub fn run_goto<C: Chooser, W: Watch>(
     alloc: Global,
     p: &GotoProgram,
@@ -128,9 +131,11 @@ pub fn run_goto<C: Chooser, W: Watch>(
     ensures end { IfOk result (λ r. end_view r.end ≡ (goto_run (goto_view p.now) steps r.used).end) }
     ensures length { IfOk result (λ r. length r.used ≡ (goto_run (goto_view p.now) steps r.used).used) }
     ensures counts { IfOk result (λ r. r.counts ≡ all_counted (map spoken (goto_run (goto_view p.now) steps r.used).events) no_counts) }
+    ensures whole { IfOk result (λ r. IfSome (C.left chooser.old) (λ list. goto_run (goto_view p.now) steps list ≡ goto_run (goto_view p.now) steps r.used)) }
     ensures used { IfOk result (λ r. Used (C.left chooser.old) (C.left chooser.new) r.used) }
     ensures given { IfOk result (λ r. C.given chooser.new ≡ raised (C.given chooser.old) (length r.used)) }
     ensures dry { IfOk result (λ r. C.dry chooser.new ≡ raised (C.dry chooser.old) (dry_at (end_view r.end))) }
+    ensures ended { IfOk result (λ r. end_view r.end ≡ ChoicesEnded → IfSome (C.left chooser.new) (λ rest. rest ≡ [])) }
     ensures heard { IfOk result (λ r. W.records watch.new ≡ map (hears_all (map spoken (goto_run (goto_view p.now) steps r.used).events)) (W.records watch.old)) }
     ensures parts { W.parts watch.new ≡ W.parts watch.old }
     ensures refused { OnErr result (IsCutShort (goto_run (goto_view p.now) steps) (C.left chooser.old) (C.left chooser.new) (W.records watch.old) (W.records watch.new)) }

@@ -1,6 +1,6 @@
 -- Drawing in parts: what is taken and told in each part is taken and told in all.
 use Rattle.std.proofs.Common.{◌≡◌, ℕ, zero, suc, ◌<◌, ◌%◌, ℤ, List, [], ◌∷◌, ◌++◌, length, map, Option, Some, None, refl, ap, sym, ◌∙◌, arith, append_assoc, append-nil, length-append}
-use Rattle.std.specs.Prelude.{Result, Ok, Err, IsErr}
+use Rattle.std.specs.Prelude.{Result, Ok, Err, IsErr, IfSome}
 use Rattle.std.proofs.lemmas.List.{map-append}
 use Rattle.dc_core.specs.declared.number.NumKind.TheVariants.{S32}
 use Rattle.dc_core.specs.Event.{Event, Draw, Create}
@@ -25,7 +25,7 @@ Used-join None None (Some c) xs ys u v = absurd v
 Used-join (Some a) (Some b) None xs ys u v = absurd v
 
 pub IsTaken-none : (s : Supply) → IsTaken [] 0 s s
-IsTaken-none s = record { left = Used-none s.left; given = omega arith; dry = omega arith; used = sym (append-nil s.used) }
+IsTaken-none s = record { left = Used-none s.left; given = omega arith; dry = omega arith; used = sym (append-nil s.used); ended = λ e. absurd (omega (arith, e)) }
 
 pub IsTaken-join : (xs ys : List ℕ) (k : ℕ) (s t u : Supply) → IsTaken xs 0 s t → IsTaken ys k t u → IsTaken (xs ++ ys) k s u
 IsTaken-join xs ys k s t u a b = record {
@@ -33,6 +33,7 @@ IsTaken-join xs ys k s t u a b = record {
   given = omega (arith, length-append xs ys, a.given, b.given);
   dry = omega (arith, a.dry, b.dry);
   used = b.used ∙ ap (λ l. l ++ ys) a.used ∙ append_assoc s.used xs ys;
+  ended = b.ended;
 }
 
 pub told-append : (xs ys : List Note) (h : Hearing) → told (xs ++ ys) h ≡ told ys (told xs h)
@@ -202,6 +203,12 @@ Used-dry (Some a) (Some b) t = t.0 ∙ sym t.1
 Used-dry None (Some b) t = absurd t
 Used-dry (Some a) None t = absurd t
 
+ended-dry : (a b : Option (List ℕ)) → Takes a b None → IfSome b (λ rest. rest ≡ [])
+ended-dry None None t = tt
+ended-dry (Some a) (Some b) t = t.1
+ended-dry None (Some b) t = absurd t
+ended-dry (Some a) None t = tt
+
 Used-one : (a b : Option (List ℕ)) (x : ℕ) → Takes a b (Some x) → Used a b (x ∷ [])
 Used-one None None x t = tt
 Used-one (Some a) (Some b) x t = t
@@ -209,10 +216,10 @@ Used-one None (Some b) x t = absurd t
 Used-one (Some a) None x t = absurd t
 
 pub IsTaken-dry : (l l' : Option (List ℕ)) (g g' d d' : ℕ) (u u' : List ℕ) → Takes l l' None → Counted g g' d d' None → u' ≡ u → IsTaken [] 1 (supply l g d u) (supply l' g' d' u')
-IsTaken-dry l l' g g' d d' u u' t c e = record { left = Used-dry l l' t; given = omega (arith, c.0); dry = c.1; used = e ∙ sym (append-nil u) }
+IsTaken-dry l l' g g' d d' u u' t c e = record { left = Used-dry l l' t; given = omega (arith, c.0); dry = c.1; used = e ∙ sym (append-nil u); ended = λ n. ended-dry l l' t }
 
 pub IsTaken-one : (l l' : Option (List ℕ)) (g g' d d' x : ℕ) (u u' : List ℕ) → Takes l l' (Some x) → Counted g g' d d' (Some x) → u' ≡ u ++ x ∷ [] → IsTaken (x ∷ []) 0 (supply l g d u) (supply l' g' d' u')
-IsTaken-one l l' g g' d d' x u u' t c e = record { left = Used-one l l' x t; given = c.0; dry = omega (arith, c.1); used = e }
+IsTaken-one l l' g g' d d' x u u' t c e = record { left = Used-one l l' x t; given = c.0; dry = omega (arith, c.1); used = e; ended = λ n. absurd (omega (arith, n)) }
 
 pub dry-one : (k : ℕ) (s s' : Supply) (h : Hearing) → IsTaken [] 1 s s' → RanDry (draw k) s s' h h
 dry-one k s s' h t = record { numbers = []; events = []; ended = refl; taken = t; heard = refl }

@@ -1,3 +1,4 @@
 pub mod Numbers
 pub mod Objects
 pub mod Drawing
+pub mod Reported

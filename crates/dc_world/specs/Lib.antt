@@ -5,3 +5,4 @@ pub mod Log
 pub mod Drawing
 pub mod Sets
 pub mod Report
+pub mod Reported

@@ -1,5 +1,5 @@
 -- What a run takes from a chooser, and what it tells a watch and its log.
-use Rattle.std.specs.Prelude.{◌≡◌, ℕ, List, [], ◌∷◌, ◌++◌, length, map, Option}
+use Rattle.std.specs.Prelude.{◌≡◌, ℕ, List, [], ◌∷◌, ◌++◌, length, map, Option, IfSome}
 use Rattle.dc_core.specs.Event as plain
 use Rattle.dc_core.specs.Run.{Note, Did, Failed}
 use Rattle.dc_text.specs.declared.event.Event.{Event}
@@ -41,12 +41,13 @@ pub record Supply : Type 0 where
 abbrev pub supply : Option (List ℕ) → ℕ → ℕ → List ℕ → Supply
 supply left given dry used = record { left = left; given = given; dry = dry; used = used }
 
--- these numbers were taken, and so many times (once at most) there was none
+-- these numbers were taken, and so many times (once at most) there was none, which comes where none is left
 pub record IsTaken (numbers : List ℕ) (none : ℕ) (before after : Supply) : Type 0 where
   pub left : Used before.left after.left numbers
   pub given : after.given ≡ raised before.given (length numbers)
   pub dry : after.dry ≡ raised before.dry none
   pub used : after.used ≡ before.used ++ numbers
+  pub ended : none ≡ 1 → IfSome after.left (λ rest. rest ≡ [])
 
 -- a watch's records and parts, and the log's counts and failed names
 pub record Hearing : Type 0 where

@@ -1,6 +1,7 @@
 use Rattle.dc_goto.specs.View.{goto_view}
 use Rattle.dc_world.proofs.Drawing.{Used-none}
-use Rattle.dc_machine.proofs.Final.{cut_at_once, on_err, ok-map}
+use Rattle.dc_world.proofs.Reported.{cut_at_once}
+use Rattle.dc_machine.proofs.Final.{on_err, ok-map}
 use Rattle.dc_machine.proofs.run.run_goto.Goals as goal
 
 pub returns-clause-failed : goal.returns-clause-failed
@@ -32,3 +33,9 @@ returns-clause-refused g c = c.run_program.ensures.refused (goto_view c.args.p.n
 
 pub returns-in_err-p-clause-refused : goal.returns-in_err-p-clause-refused
 returns-in_err-p-clause-refused g c = on_err _ c.from_residual.result (cut_at_once _ _ _ (Used-none (g.C.Chooser.left c.args.chooser.now)))
+
+pub returns-clause-whole : goal.returns-clause-whole
+returns-clause-whole g c = ok-map c.run_program.result (λ r h. h.whole) (c.run_program.ensures.report (goto_view c.args.p.now) c.in_ok-p.ensures.goto)
+
+pub returns-clause-ended : goal.returns-clause-ended
+returns-clause-ended g c = ok-map c.run_program.result (λ r h. h.ended) (c.run_program.ensures.report (goto_view c.args.p.now) c.in_ok-p.ensures.goto)
