@@ -1,0 +1,68 @@
+-- Statements one after another, and what is told of a write.
+use Rattle.std.proofs.Common.{◌≡◌, ℕ, zero, suc, Bool, ℤ, List, [], ◌∷◌, ◌++◌, map, Some, refl}
+use Rattle.dc_core.specs.Assertion.{assigns_name}
+use Rattle.dc_core.specs.Contract.{WriteSet, allowed, claimed, judged}
+use Rattle.dc_core.specs.Event as plain
+use Rattle.dc_core.specs.Memory.{Memory, object_of, offset_of, store}
+use Rattle.dc_core.specs.Program.{Expr, Stmt, Assign}
+use Rattle.dc_core.specs.Value.{Body, value, place}
+use Rattle.dc_core.specs.Run.{State, Out, Normal, Note, Did, Failed, tick, tick_at, then_do, contract_mode, with_memory, write, perform, run}
+use Rattle.dc_core.specs.declared.number.NumKind.TheVariants.{S32}
+use Rattle.dc_choice.specs.Heard.{Record}
+use Rattle.dc_world.specs.declared.log.Log.{Log}
+use Rattle.dc_world.specs.Told.{Hearing, fails, told}
+use Rattle.dc_world.specs.Log.{hearing}
+use Rattle.dc_run.specs.declared.state.Flow.TheVariants as flow
+use Rattle.dc_run.specs.Part.{HasCome}
+
+-- a name that failed is told
+pub failed_told : (records : List Record) (parts : List ℕ) (before after : Log) (name : List ℕ) → after.failed ≡ before.failed ++ name ∷ [] → after.counts ≡ before.counts
+    → hearing records parts after ≡ fails name (hearing records parts before)
+failed_told records parts before after name f e = rw (f, e) refl
+
+pub failed_same : (records : List Record) (parts : List ℕ) (before after : Log) → after.failed ≡ before.failed → after.counts ≡ before.counts
+    → hearing records parts after ≡ hearing records parts before
+failed_same records parts before after f e = rw (f, e) refl
+
+-- an int was written
+pub written_part : (name : List ℕ) (set : WriteSet) (site place : ℕ) (v : ℤ) (before after : List ℕ → State) (memory new : Memory) (h h' : Hearing)
+    → ((choices : List ℕ) → (before choices).world.memory ≡ memory) → ((choices : List ℕ) → with_memory new (before choices) ≡ after choices)
+    → store S32 place v memory ≡ Some new
+    → h' ≡ told (Did (plain.Write (object_of place) (offset_of place) 4) ∷ map Failed (judged set (Rattle.dc_core.specs.Contract.Wrote name site (object_of place) (offset_of place) 4))) h
+    → HasCome (λ choices. write contract_mode name set site place v (before choices)) after flow.Normal h h'
+written_part name set site place v before after memory new h h' m a s t = record {
+  notes = Did (plain.Write (object_of place) (offset_of place) 4) ∷ map Failed (judged set (Rattle.dc_core.specs.Contract.Wrote name site (object_of place) (offset_of place) 4));
+  comes = λ choices. stored (before choices) (after choices) (m choices) (a choices);
+  not_dry = refl;
+  heard = t;
+}
+  where
+    stored : (st st' : State) → st.world.memory ≡ memory → with_memory new st ≡ st' → write contract_mode name set site place v st ≡ Normal (Did (plain.Write (object_of place) (offset_of place) 4) ∷ map Failed (judged set (Rattle.dc_core.specs.Contract.Wrote name site (object_of place) (offset_of place) 4))) st'
+    stored st st' e f = rw (e, s, f) refl
+
+pub told_written : (name : List ℕ) (set : WriteSet) (site place pointer object from : ℕ) (held : Bool) (h h' : Hearing)
+    → pointer ≡ place → object ≡ object_of pointer → from ≡ offset_of pointer → held ≡ allowed set object from 4
+    → h' ≡ told (Did (plain.Write object from 4) ∷ map Failed (claimed (assigns_name name site) held)) h
+    → h' ≡ told (Did (plain.Write (object_of place) (offset_of place) 4) ∷ map Failed (judged set (Rattle.dc_core.specs.Contract.Wrote name site (object_of place) (offset_of place) 4))) h
+told_written name set site place pointer object from held h h' p o f a t = rw (← p, ← o, ← f, ← a) t
+
+-- a value with a place
+pub assigned : (name : List ℕ) (set : WriteSet) (places : List ℕ) (site : ℕ) (target e : Expr) (v : ℤ) (pointer : ℕ) (st : State)
+    → Some v ≡ value (Body places) st.world.memory e → Some pointer ≡ place (Body places) target
+    → perform contract_mode name set places (Assign site target e) st ≡ write contract_mode name set site pointer v st
+assigned name set places site target e v pointer st a b = rw (← a, ← b) refl
+
+pub tick_some : (st st' : State) (n : ℕ) (go : State → Out Note) → st.left ≡ suc n → st' ≡ record st { left = n } → tick st go ≡ go st'
+tick_some st st' n go e f = rw (e, f) refl
+
+tick_then : (st : State) (k : ℕ) (f : State → Out Note) (go : State → Out Note) → tick_at k st (λ t. then_do (f t) go) ≡ then_do (tick_at k st f) go
+tick_then st zero f go = refl
+tick_then st (suc k) f go = refl
+
+-- the first statement, and those behind it
+pub run_more : (name : List ℕ) (set : WriteSet) (places : List ℕ) (all rest : List Stmt) (s : Stmt) (st : State) → all ≡ s ∷ rest
+    → run contract_mode name set places all st ≡ then_do (tick st (perform contract_mode name set places s)) (run contract_mode name set places rest)
+run_more name set places all rest s st e = rw e (tick_then st st.left (perform contract_mode name set places s) (run contract_mode name set places rest))
+
+pub run_none : (name : List ℕ) (set : WriteSet) (places : List ℕ) (all : List Stmt) (st : State) → all ≡ [] → run contract_mode name set places all st ≡ Normal [] st
+run_none name set places all st e = rw e refl

@@ -1,0 +1,4 @@
+pub mod View
+pub mod Part
+pub mod Entry
+pub mod Report

@@ -1,0 +1,201 @@
+// The values and places of expressions.
+ghost use Rattle.std.specs.Prelude.{◌≡◌, ◌≤◌, ◌<◌, ◌^◌, length, pos, Some, slice_get, option_copied};
+ghost use Rattle.dc_core.specs.declared.number.NumKind.TheVariants.{S32};
+ghost use Rattle.dc_core.specs.Memory.{start_of, load, store};
+ghost use Rattle.dc_core.specs.Number.{settled, truth as truth_of, computed};
+ghost use Rattle.dc_core.specs.Value.{variable_place as place_of_variable, parameter_value as value_of_parameter, result_value as value_of_result, parameter_place as place_of_parameter, value as value_of, place as place_of};
+ghost use Rattle.dc_core.specs.View.{expr_view};
+ghost use Rattle.dc_world.specs.View.{memory_view};
+ghost use Rattle.dc_run.specs.View.{scope_view, IsWritten};
+
+use dc_core::{BinOp, Expr, NumKind};
+use dc_world::Memory;
+use sqlite_items::at;
+
+/// Where an expression stands: in a body, by the places of the parameters' objects; or in a clause, by the arguments at
+/// entry and the result.
+#[derive(Clone, Copy)]
+pub enum Scope<'a> {
+    Body(&'a [u128]),
+    Clause(&'a [i128], Option<i128>),
+}
+
+/// The place of the start of an object.
+#[tactic(auto, unfolding(dc_core::specs::Memory::start_of))]
+pub fn start(number: u64) -> u128
+    ensures { result ≡ start_of number }
+{
+    number as u128 * 281474976710656
+}
+
+// The place of a variable.
+#[tactic(auto, unfolding(dc_core::specs::Memory::start_of))]
+fn variable_place(k: u64) -> u128
+    ensures { result ≡ place_of_variable k }
+{
+    (k as u128 + 2) * 281474976710656
+}
+
+// The int at a place, where the place is inside a live object. There are too few objects for a place from 2^64 on.
+fn load_int(memory: &Memory, place: u128) -> Option<i128>
+    requires { length (memory_view memory.now) ≤ 65535 }
+    ensures { result ≡ load S32 place (memory_view memory.now) }
+{
+    if place >= 1 << 64 {
+        return None;
+    }
+    memory.load(NumKind::S32, place as u64)
+}
+
+/// Writes an int at a place and gives the place, where it is inside a live object.
+pub fn store_int(memory: &mut Memory, place: u128, value: i128) -> Option<u64>
+    requires { length (memory_view memory.old) ≤ 65535 }
+    ensures { IsWritten result place (store S32 place value (memory_view memory.old)) (memory_view memory.old) (memory_view memory.new) }
+{
+    if place >= 1 << 64 {
+        return None;
+    }
+    if memory.store(NumKind::S32, place as u64, value) {
+        Some(place as u64)
+    } else {
+        None
+    }
+}
+
+// The place of a parameter's object.
+fn place_at(places: &[u128], k: u64) -> Option<u128>
+    ensures { result ≡ slice_get places.now k }
+{
+    match at(places, k as usize) {
+        None => None,
+        Some(place) => Some(*place),
+    }
+}
+
+// An argument.
+fn argument_at(arguments: &[i128], k: u64) -> Option<i128>
+    ensures { result ≡ slice_get arguments.now k }
+{
+    match at(arguments, k as usize) {
+        None => None,
+        Some(value) => Some(*value),
+    }
+}
+
+// The value of a parameter.
+fn parameter_value(scope: &Scope, memory: &Memory, k: u64) -> Option<i128>
+    requires { length (memory_view memory.now) ≤ 65535 }
+    ensures { result ≡ value_of_parameter (scope_view scope.now) (memory_view memory.now) k }
+{
+    match scope {
+        Scope::Body(places) => match place_at(places, k) {
+            None => None,
+            Some(place) => load_int(memory, place),
+        },
+        Scope::Clause(arguments, _) => argument_at(arguments, k),
+    }
+}
+
+// The result that a clause may name.
+fn result_value(scope: &Scope) -> Option<i128>
+    ensures { result ≡ value_of_result (scope_view scope.now) }
+{
+    match scope {
+        Scope::Body(_) => None,
+        Scope::Clause(_, result) => *result,
+    }
+}
+
+// The int that a result is, where it is one.
+fn settle(z: i128) -> Option<i128>
+    ensures { result ≡ settled S32 z }
+{
+    if z < i32::MIN as i128 || z > i32::MAX as i128 {
+        None
+    } else {
+        Some(z)
+    }
+}
+
+// The int that a comparison gives.
+fn truth(holds: bool) -> i128
+    ensures { result ≡ truth_of holds }
+{
+    if holds { 1 } else { 0 }
+}
+
+// The sum, where it is an int.
+#[tactic(auto, unfolding(dc_core::specs::Number::computed))]
+fn add(a: i128, b: i128) -> Option<i128>
+    ensures { result ≡ computed BinOp.Add S32 a b }
+{
+    match a.checked_add(b) {
+        None => None,
+        Some(z) => settle(z),
+    }
+}
+
+// The difference, where it is an int.
+#[tactic(auto, unfolding(dc_core::specs::Number::computed))]
+fn subtract(a: i128, b: i128) -> Option<i128>
+    ensures { result ≡ computed BinOp.Sub S32 a b }
+{
+    match a.checked_sub(b) {
+        None => None,
+        Some(z) => settle(z),
+    }
+}
+
+// What an operator makes of two ints.
+#[tactic(auto, unfolding(dc_core::specs::Number::computed))]
+fn operate(op: BinOp, a: i128, b: i128) -> Option<i128>
+    ensures { result ≡ computed op S32 a b }
+{
+    match op {
+        BinOp::Add => add(a, b),
+        BinOp::Sub => subtract(a, b),
+        BinOp::Lt => Some(truth(a < b)),
+        BinOp::Le => Some(truth(a <= b)),
+        BinOp::Eq => Some(truth(a == b)),
+        BinOp::Ne => Some(truth(a != b)),
+    }
+}
+
+/// The value of an expression, where it has one.
+pub fn value(scope: &Scope, memory: &Memory, e: &Expr) -> Option<i128>
+    requires { length (memory_view memory.now) ≤ 65535 }
+    ensures { result ≡ value_of (scope_view scope.now) (memory_view memory.now) (expr_view e.now) }
+{
+    match e {
+        Expr::Literal(z) => Some(*z),
+        Expr::Variable(k) => load_int(memory, variable_place(*k)),
+        Expr::Parameter(k) => parameter_value(scope, memory, *k),
+        Expr::ReturnValue => result_value(scope),
+        Expr::Binary(op, a, b) => {
+            let a = value(scope, memory, a.get())?;
+            let b = value(scope, memory, b.get())?;
+            operate(*op, a, b)
+        }
+    }
+}
+
+// The place of a parameter, which a clause doesn't name.
+fn parameter_place(scope: &Scope, k: u64) -> Option<u128>
+    ensures { result ≡ place_of_parameter (scope_view scope.now) k }
+{
+    match scope {
+        Scope::Body(places) => place_at(places, k),
+        Scope::Clause(_, _) => None,
+    }
+}
+
+/// The place of an expression, where it has one.
+pub fn place(scope: &Scope, e: &Expr) -> Option<u128>
+    ensures { result ≡ place_of (scope_view scope.now) (expr_view e.now) }
+{
+    match e {
+        Expr::Variable(k) => Some(variable_place(*k)),
+        Expr::Parameter(k) => parameter_place(scope, *k),
+        Expr::Literal(_) | Expr::ReturnValue | Expr::Binary(_, _, _) => None,
+    }
+}
