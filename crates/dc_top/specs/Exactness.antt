@@ -6,7 +6,7 @@ use Rattle.dc_core.specs.Run.{contract_run}
 use Rattle.dc_goto.specs.Program.{GotoProgram}
 use Rattle.dc_goto.specs.Machine.{goto_run}
 use Rattle.dc_goto.specs.Text.{IsSpelt}
-use Rattle.dc_top.specs.Form.{IsForm}
+use Rattle.dc_form.specs.Form.{IsForm}
 
 -- the text is that of a goto program that is exact for the source's program, whose function has this name
 pub record Instruments (bytes name text : List ℕ) : Type 0 where

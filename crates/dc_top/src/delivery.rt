@@ -1,6 +1,6 @@
 // Answers that are written to the two sinks.
-ghost use Rattle.std.specs.Prelude.{◌≡◌, ◌≢◌, []};
-ghost use Rattle.dc_top.specs.Answers.{output_of, status_of};
+ghost use Rattle.std.specs.Prelude.{◌≡◌, Bool, false, []};
+ghost use Rattle.dc_top.specs.Answers.{is_output, output_of};
 ghost use Rattle.dc_top.specs.Delivery.{Complains, Delivers, Says, sunk};
 
 use crate::answer::Answer;
@@ -30,23 +30,23 @@ pub fn say<O: Sink, E: Sink>(text: &[u8], out: &mut O, err: &mut E) -> u8
     }
 }
 
-// Writes the text, and a line of its own where that fails.
-fn give_text<O: Sink, E: Sink>(answer: &Answer, lines: &Lines, out: &mut O, err: &mut E) -> u8
-    requires { answer.now ≡ Answer.Text lines.now }
+// Writes the lines of an output, and a line of its own where that fails.
+fn give_output<O: Sink, E: Sink>(answer: &Answer, lines: &Lines, out: &mut O, err: &mut E) -> u8
+    requires { (failed : Bool) × (answer.now ≡ Answer.Output lines.now failed) }
     ensures { Delivers answer.now result (sunk (O.written out.old) (O.written out.new) (O.faults out.old) (O.faults out.new))
         (sunk (E.written err.old) (E.written err.new) (E.faults err.old) (E.faults err.new)) }
 {
     adds_nothing();
     match write_lines(out, lines.as_slice()) {
-        Ok(()) => 0,
+        Ok(()) => answer.status(),
         Err(_) => complain(b"dcc: write fault\n", 7, err),
     }
 }
 
-// Writes the line of an answer that has no text.
+// Writes the line of an answer that is no output.
 fn give_line<O: Sink, E: Sink>(answer: &Answer, out: &mut O, err: &mut E) -> u8
     requires silent { output_of answer.now ≡ [] }
-    requires no_text { status_of answer.now ≢ 0 }
+    requires no_output { is_output answer.now ≡ false }
     ensures { Delivers answer.now result (sunk (O.written out.old) (O.written out.new) (O.faults out.old) (O.faults out.new))
         (sunk (E.written err.old) (E.written err.new) (E.faults err.old) (E.faults err.new)) }
 {
@@ -54,13 +54,13 @@ fn give_line<O: Sink, E: Sink>(answer: &Answer, out: &mut O, err: &mut E) -> u8
     complain(answer.line(), answer.status(), err)
 }
 
-/// Writes the answer, a text to the first sink and a line to the second, and gives the status.
+/// Writes the answer, an output to the first sink and a line to the second, and gives the status.
 pub fn deliver<O: Sink, E: Sink>(answer: &Answer, out: &mut O, err: &mut E) -> u8
     ensures { Delivers answer.now result (sunk (O.written out.old) (O.written out.new) (O.faults out.old) (O.faults out.new))
         (sunk (E.written err.old) (E.written err.new) (E.faults err.old) (E.faults err.new)) }
 {
     match answer {
-        Answer::Text(lines) => give_text(answer, lines, out, err),
+        Answer::Output(lines, _) => give_output(answer, lines, out, err),
         _ => give_line(answer, out, err),
     }
 }

@@ -1,23 +1,8 @@
 // Each answer, by the words, the source and the calls of the outside that fail.
 use crate::harness::{
-    EMPTY_FUNCTION, EMPTY_FUNCTION_TEXT, Faults, INSTRUMENT, NO_FAULT, Outcome, run,
+    EMPTY_FUNCTION, EMPTY_FUNCTION_TEXT, Faults, INSTRUMENT, NO_FAULT, Wanted, assert_gives, run,
 };
-use std::process::Abort;
 use std::test::Fail;
-
-// What is wanted of a run.
-struct Wanted {
-    status: u8,
-    out: &'static str,
-    err: &'static str,
-}
-
-// The run gave what is wanted.
-fn assert_gives(rt: &impl Abort, outcome: &Outcome, wanted: &Wanted, name: &str) {
-    assert_eq!(rt; outcome.status, wanted.status, "{name}");
-    assert_eq!(rt; outcome.out.as_slice(), wanted.out.as_bytes(), "{name}");
-    assert_eq!(rt; outcome.err.as_slice(), wanted.err.as_bytes(), "{name}");
-}
 
 const OTHER_FUNCTION: &str = "int a; void g ( void ){}";
 

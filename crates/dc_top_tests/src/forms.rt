@@ -2,7 +2,7 @@
 use crate::harness::{ENFORCE_SET, INSTRUMENT, NO_FAULT, SET, run};
 use std::test::Fail;
 
-const SET_TEXT: &str = "dcc 1
+pub const SET_TEXT: &str = "dcc 1
 function set void s32
 static g 4
 body set 1 3

@@ -5,6 +5,7 @@ use dc_core::Name;
 use dc_outside::{MemoryShelf, MemorySink};
 use dc_top::dfcc_main;
 use std::alloc::{AllocError, Global};
+use std::process::Abort;
 
 pub const INSTRUMENT: &[&str] = &["instrument", "a.c", "--enforce", "f"];
 
@@ -87,11 +88,26 @@ pub fn run(
     source: &[u8],
     faults: &Faults,
 ) -> Result<Outcome, AllocError> {
+    run_both(alloc, words, source, b"", faults)
+}
+
+/// A run for these words, where the files a.c and choices.json have these bytes.
+pub fn run_both(
+    alloc: Global,
+    words: &[&'static str],
+    first: &[u8],
+    choices: &[u8],
+    faults: &Faults,
+) -> Result<Outcome, AllocError> {
     let Words { plain, names } = words_of(alloc, words)?;
     let mut files = Vec::new(alloc);
     files.push((
         Vec::from_slice(alloc, b"a.c")?,
-        Vec::from_slice(alloc, source)?,
+        Vec::from_slice(alloc, first)?,
+    ))?;
+    files.push((
+        Vec::from_slice(alloc, b"choices.json")?,
+        Vec::from_slice(alloc, choices)?,
     ))?;
     let mut shelf = MemoryShelf::new(plain, files, Vec::from_slice(alloc, &[faults.shelf])?);
     let mut out = MemorySink::new(alloc, Vec::from_slice(alloc, &[faults.out])?);
@@ -102,4 +118,18 @@ pub fn run(
         out: Vec::from_slice(alloc, out.written())?,
         err: Vec::from_slice(alloc, err.written())?,
     })
+}
+
+/// What is wanted of a run.
+pub struct Wanted {
+    pub status: u8,
+    pub out: &'static str,
+    pub err: &'static str,
+}
+
+/// The run gave what is wanted.
+pub fn assert_gives(rt: &impl Abort, outcome: &Outcome, wanted: &Wanted, name: &str) {
+    assert_eq!(rt; outcome.status, wanted.status, "{name}");
+    assert_eq!(rt; outcome.out.as_slice(), wanted.out.as_bytes(), "{name}");
+    assert_eq!(rt; outcome.err.as_slice(), wanted.err.as_bytes(), "{name}");
 }

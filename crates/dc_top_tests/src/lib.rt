@@ -11,3 +11,5 @@ mod forms;
 mod harness;
 #[cfg(test)]
 mod real_outside;
+#[cfg(test)]
+mod replays;

@@ -1,0 +1,10 @@
+pub mod Lexed
+pub mod Decimals
+pub mod Named
+pub mod Turns
+pub mod Expressed
+pub mod Headed
+pub mod Claused
+pub mod Bodied
+pub mod Sourced
+pub mod Sound

@@ -1,0 +1,133 @@
+-- Terms have the values of the expressions from which they come.
+use Rattle.std.proofs.Common.{◌≡◌, ℕ, suc, ◌+◌, ◌<◌, ◌≤◌, ◌^◌, Bool, true, false, List, length, Option, Some, None, refl, ap, sym, ◌∙◌, arith, ℤ, pos}
+use Rattle.std.specs.Prelude.{slice_get}
+use Rattle.std.specs.Option.{option_map}
+use Rattle.dc_core.specs.declared.number.NumKind.TheVariants.{S32}
+use Rattle.dc_core.specs.declared.number.BinOp.{BinOp}
+use Rattle.dc_core.specs.Number.{converted, computed}
+use Rattle.dc_core.specs.Memory.{Memory, start_of, load}
+use Rattle.dc_core.specs.Program.{Expr, Literal, Variable, Parameter, ReturnValue, Binary, Program}
+use Rattle.dc_core.specs.Term.{Register, Load}
+use Rattle.dc_core.specs.Value.{Scope, Body, value, place, both, variable_place, parameter_value, result_value, load_int}
+use Rattle.dc_core.specs.Sound.{Stands, IsLvalue, IsTarget}
+use Rattle.dc_core.proofs.Numbers.{HasInt, HasInt-computed, converted-value}
+use Rattle.dc_core.proofs.Objects.{start_of-small, HasInt-load}
+use Rattle.dc_goto.specs.Machine.{Registers, term_value, natural_value, as_natural, load_from, operated}
+use Rattle.dc_goto.proofs.Values.{as_natural-pos}
+use Rattle.dc_instrument.specs.Lowering.{term_of, place_term, parameter_term, result_term}
+use Rattle.dc_instrument.specs.declared.places.Places.{Places}
+use Rattle.dc_instrument.specs.declared.places.Places.TheVariants as places
+
+-- a value on both sides, which is an int where it is there
+pub record SameInt (source target : Option ℤ) : Type 0 where
+  pub same : source ≡ target
+  pub int : HasInt source
+
+-- what parameters and the result stand for is the same on both sides
+pub record Fits (p : Program) (result : Bool) (scope : Scope) (at : Places) (regs : Registers) (memory : Memory) : Type 0 where
+  pub parameters : (k : ℕ) → k < p.function.params → SameInt (parameter_value scope memory k) (term_value regs memory (parameter_term at k))
+  pub result_is : result ≡ true → SameInt (result_value scope) (term_value regs memory (result_term at))
+
+pub variable_pointer : (statics k : ℕ) → statics ≤ 32766 → k < statics → as_natural (pos (start_of (suc (suc k)))) ≡ variable_place k
+variable_pointer statics k few h = as_natural-pos (start_of (suc (suc k))) (start_of-small (suc (suc k)) (omega arith))
+
+both_same : (op : BinOp) (a b a' b' : Option ℤ) → SameInt a a' → SameInt b b' → SameInt (both op a b) (operated op S32 a' b')
+both_same op a b a' b' s t =
+    record {
+      same = by a b s.int t.int ∙ ap (λ x. operated op S32 x b) s.same ∙ ap (λ y. operated op S32 a' y) t.same;
+      int = made a b;
+    }
+  where
+    by : (a b : Option ℤ) → HasInt a → HasInt b → both op a b ≡ operated op S32 a b
+    by None b h k = refl
+    by (Some x) None h k = refl
+    by (Some x) (Some y) h k =
+        sym (ap (λ z. computed op S32 z (converted S32 y)) (converted-value x h) ∙ ap (λ z. computed op S32 x z) (converted-value y k))
+
+    made : (a b : Option ℤ) → HasInt (both op a b)
+    made None b = tt
+    made (Some x) None = tt
+    made (Some x) (Some y) = HasInt-computed op x y
+
+-- the value of an expression
+pub value_same : (p : Program) (result : Bool) (scope : Scope) (at : Places) (regs : Registers) (memory : Memory) (e : Expr)
+    → length p.statics ≤ 32766 → Fits p result scope at regs memory → Stands p result e → SameInt (value scope memory e) (term_value regs memory (term_of at e))
+value_same p result scope at regs memory (Literal z) few f s = record { same = refl; int = s }
+value_same p result scope at regs memory (Variable k) few f s =
+    record {
+      same = ap (λ pointer. load S32 pointer memory) (sym (variable_pointer (length p.statics) k few s));
+      int = HasInt-load (variable_place k) memory;
+    }
+value_same p result scope at regs memory (Parameter k) few f s = f.parameters k s
+value_same p result scope at regs memory ReturnValue few f s = f.result_is s
+value_same p result scope at regs memory (Binary op a b) few f s =
+    both_same op _ _ _ _ (value_same p result scope at regs memory a few f s.0) (value_same p result scope at regs memory b few f s.1)
+
+-- in a body, the register of each parameter holds the pointer to its object
+pub record Held (places : List ℕ) (regs : Registers) (first k : ℕ) : Type 0 where
+  pub pointer : ℕ
+  pub known : slice_get places k ≡ Some pointer
+  pub register : slice_get regs (first + k) ≡ Some (Some (pos pointer))
+  pub small : pointer < 2 ^ 64
+
+abbrev pub AllHeld : Program → List ℕ → Registers → ℕ → Type 0
+AllHeld p places regs first = (k : ℕ) → k < p.function.params → Held places regs first k
+
+held_pointer : (places : List ℕ) (regs : Registers) (memory : Memory) (first k : ℕ) → Held places regs first k → slice_get places k ≡ natural_value regs memory (Register (first + k))
+held_pointer places regs memory first k h =
+    h.known ∙ sym (ap (λ o. option_map as_natural (read o)) h.register ∙ ap Some (as_natural-pos h.pointer h.small))
+  where
+    read : Option (Option ℤ) → Option ℤ
+    read None = None
+    read (Some held) = held
+
+held_value : (places : List ℕ) (regs : Registers) (memory : Memory) (first k : ℕ) → Held places regs first k
+    → SameInt (load_int memory (slice_get places k)) (term_value regs memory (Load S32 (Register (first + k))))
+held_value places regs memory first k h =
+    record {
+      same =
+          ap (load_int memory) h.known
+          ∙ sym (ap (λ o. load_from S32 memory (read o)) h.register ∙ ap (λ pointer. load S32 pointer memory) (as_natural-pos h.pointer h.small));
+      int = made (slice_get places k);
+    }
+  where
+    read : Option (Option ℤ) → Option ℤ
+    read None = None
+    read (Some held) = held
+
+    made : (o : Option ℕ) → HasInt (load_int memory o)
+    made None = tt
+    made (Some pointer) = HasInt-load pointer memory
+
+pub body_fits : (p : Program) (at : List ℕ) (regs : Registers) (memory : Memory) (first : ℕ) → AllHeld p at regs first → Fits p false (Body at) (places.Body first) regs memory
+body_fits p at regs memory first held =
+    record {
+      parameters = λ k h. held_value at regs memory first k (held k h);
+      result_is = λ e. absurd (cc);
+    }
+
+-- a place on both sides
+pub record SamePlace (source target : Option ℕ) : Type 0 where
+  pub pointer : ℕ
+  pub known : source ≡ Some pointer
+  pub same : source ≡ target
+
+-- the place of an lvalue
+pub place_same : (p : Program) (at : List ℕ) (regs : Registers) (memory : Memory) (first : ℕ) (e : Expr)
+    → length p.statics ≤ 32766 → AllHeld p at regs first → IsLvalue p e → SamePlace (place (Body at) e) (natural_value regs memory (place_term (places.Body first) e))
+place_same p at regs memory first (Literal z) few held s = absurd s
+place_same p at regs memory first (Variable k) few held s =
+    record { pointer = variable_place k; known = refl; same = ap Some (sym (variable_pointer (length p.statics) k few s)) }
+place_same p at regs memory first (Parameter k) few held s =
+    record { pointer = (held k s).pointer; known = (held k s).known; same = held_pointer at regs memory first k (held k s) }
+place_same p at regs memory first ReturnValue few held s = absurd s
+place_same p at regs memory first (Binary op a b) few held s = absurd s
+
+-- the place of a target
+pub target_same : (p : Program) (scope : Scope) (at : Places) (regs : Registers) (memory : Memory) (e : Expr)
+    → length p.statics ≤ 32766 → IsTarget p e → natural_value regs memory (place_term at e) ≡ place scope e
+target_same p scope at regs memory (Literal z) few s = absurd s
+target_same p scope at regs memory (Variable k) few s = ap Some (variable_pointer (length p.statics) k few s)
+target_same p scope at regs memory (Parameter k) few s = absurd s
+target_same p scope at regs memory ReturnValue few s = absurd s
+target_same p scope at regs memory (Binary op a b) few s = absurd s

@@ -1,9 +1,0 @@
-use Rattle.std.proofs.Common.{◌≡◌, [], length}
-use Rattle.dc_top.specs.Read.Signature.{read_head}
-use Rattle.dc_top.proofs.read.signature.read_head.Given as goal
-
-abbrev pub invariant-loop-gives_int : goal.invariant-loop-gives_int
-invariant-loop-gives_int l = (read_head [] l.fn.tokens ≡ read_head l.names l.tokens) × (l.names ≡ l.statics)
-
-abbrev pub decreases-loop-gives_int : goal.decreases-loop-gives_int
-decreases-loop-gives_int l = length l.tokens
