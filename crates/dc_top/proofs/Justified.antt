@@ -1,26 +1,31 @@
 -- Why an answer is right.
 use Rattle.std.proofs.Common.{◌≡◌, ℕ, zero, suc, ◌<◌, ◌≤◌, ◌⊎◌, false, List, [], ◌∷◌, ◌++◌, length, map, Option, None, Some, refl, sym, ap, subst, ◌∙◌, arith, inl, inr}
 use Rattle.std.specs.Prelude.{flat_map, IfSome, IfOk, IfErr, MatchOption, MatchResult, Result, Ok, Err}
+use Rattle.std.specs.List.{AllByRecursion}
 use Rattle.dc_choice.specs.Reading.{numbers}
 use Rattle.dc_core.specs.Outcome.{Outcome, IsExact}
 use Rattle.dc_core.specs.Program.{Program}
 use Rattle.dc_core.specs.Run.{contract_run, plain_report}
+use Rattle.dc_goto.specs.Lines.{IsForm, forms_of}
 use Rattle.dc_goto.specs.Machine.{goto_run}
 use Rattle.dc_goto.specs.Program.{GotoProgram}
+use Rattle.dc_goto.specs.Shape.{IsShaped}
 use Rattle.dc_goto.specs.Text.{line_bytes, lines_of}
 use Rattle.dc_instrument.specs.Lowering.{goto_of}
+use Rattle.dc_instrument.specs.Writable.{IsWritable}
 use Rattle.dc_outside.specs.Counts.{Rose}
 use Rattle.dc_outside.specs.Shelf.{Files, IsLonger, named_file}
 use Rattle.dc_top.specs.Table.{Asked, Text, Contract, Plain, Command, Instrument, Replay, enforced, IsRow, Inputs, OfFile, OfSource, file_at, inputs_of, source_limit, choices_limit}
 use Rattle.dc_top.specs.Row.{asked_by}
 use Rattle.dc_top.specs.Exactness.{Instruments}
-use Rattle.dc_top.specs.Replaying.{IsSourceOf, Accepts, Given, ShortFault, ShortChoices}
+use Rattle.dc_top.specs.Replaying.{Accepts, Given, ShortFault, ShortChoices}
 use Rattle.dc_top.specs.Stages.{IsRefusal, SaysOfSource, ShortSource, SaysOfText, ShortText, SaysOfList, SaysOfRun, run_by}
 use Rattle.dc_top.specs.Answers.{Says, Justifies, TellsFaults, StageTells, RefusesSource, ComesTo, HasOther, IsNoForm, no_form_line}
 use Rattle.dc_top.specs.declared.answer.Answer.{Answer}
 use Rattle.dc_top.specs.declared.answer.Answer.TheVariants.{Output, Usage, Refused, BadText, BadChoices, ReadFault, Memory, TooLong}
 use Rattle.dc_top.specs.declared.table.Mode.{Mode}
 use Rattle.dc_top.specs.declared.table.Mode.TheVariants as mode
+use Rattle.dc_top.proofs.Writable.{form_is_writable}
 
 -- Files -------------------------------------------------------------------------------------------------------------
 
@@ -123,22 +128,29 @@ flat_map-map : (xs : List (List ℕ)) → flat_map (λ line. line) (map line_byt
 flat_map-map [] = refl
 flat_map-map (x ∷ xs) = ap (λ ys. line_bytes x ++ ys) (flat_map-map xs)
 
-instruments : (bytes name : List ℕ) (p : Program) (lines : List (List ℕ)) → IsSourceOf bytes name p → lines ≡ map line_bytes (lines_of (goto_of p)) → IsExact (contract_run p) (goto_run (goto_of p)) → Instruments bytes name (flat_map (λ line. line) lines)
-instruments bytes name p lines s l exact =
+-- a lowered program's lines have forms and keep the rules
+pub record CanBeWritten (p : Program) : Type 0 where
+  pub formed : AllByRecursion IsForm (forms_of (goto_of p))
+  pub shaped : IsShaped (goto_of p)
+
+instruments : (bytes name : List ℕ) (p : Program) (lines : List (List ℕ)) → ShortSource bytes name p → lines ≡ map line_bytes (lines_of (goto_of p)) → (IsWritable p → CanBeWritten p) → IsExact (contract_run p) (goto_run (goto_of p))
+    → Instruments bytes name (flat_map (λ line. line) lines)
+instruments bytes name p lines s l written exact =
+    let w = written (form_is_writable bytes p s.source.form s.short) in
     record {
       program = p;
       goto_program = goto_of p;
-      form = s.form;
-      enforced = s.enforced;
-      spelt = ap (flat_map (λ line. line)) l ∙ flat_map-map (lines_of (goto_of p));
+      form = s.source.form;
+      enforced = s.source.enforced;
+      text_is = record { spelt = ap (flat_map (λ line. line)) l ∙ flat_map-map (lines_of (goto_of p)); formed = w.formed; shaped = w.shaped };
       exact = exact;
     }
 
 -- the lines are the text of a program that is exact for the source
 pub text_written : (inputs : Inputs) (file name : List ℕ) (p : Program) (lines : List (List ℕ)) → OfSource inputs.first (λ bytes. ShortSource bytes name p) → lines ≡ map line_bytes (lines_of (goto_of p))
-    → IsExact (contract_run p) (goto_run (goto_of p)) → Says (Instrument file name) inputs (Output lines false)
-text_written inputs file name p lines source l exact =
-    (refl, each inputs.first (λ bytes. ShortSource bytes name p) (λ bytes. (length bytes ≤ source_limit) × Instruments bytes name (flat_map (λ line. line) lines)) (λ bytes s. (s.short, instruments bytes name p lines s.source l exact)) source)
+    → (IsWritable p → CanBeWritten p) → IsExact (contract_run p) (goto_run (goto_of p)) → Says (Instrument file name) inputs (Output lines false)
+text_written inputs file name p lines source l written exact =
+    (refl, each inputs.first (λ bytes. ShortSource bytes name p) (λ bytes. (length bytes ≤ source_limit) × Instruments bytes name (flat_map (λ line. line) lines)) (λ bytes s. (s.short, instruments bytes name p lines s l written exact)) source)
 
 -- the first file gives the run of this program
 pub text_given : (inputs : Inputs) (program : GotoProgram) → OfSource inputs.first (λ bytes. ShortText bytes program) → OfSource inputs.first (λ bytes. Accepts Text bytes (goto_run program))

@@ -9,7 +9,7 @@ ghost use Rattle.dc_top.specs.Table.{Instrument, inputs_of};
 use crate::answer::Answer;
 use crate::source::read_source;
 use dc_core::{Name, Program};
-use dc_instrument::laws::lowered_is_exact;
+use dc_instrument::laws::{lowered_can_be_written, lowered_is_exact};
 use dc_instrument::lowered;
 use dc_outside::Shelf;
 use dc_print::{Lines, text_lines};
@@ -34,6 +34,7 @@ pub fn instrument<H: Shelf>(alloc: Global, shelf: &mut H, name: &Name) -> Answer
     ensures faults { TellsFaults result (H.faults shelf.old) (H.faults shelf.new) }
 {
     lowered_is_exact();
+    lowered_can_be_written();
     match read_source(alloc, shelf, name) {
         Err(answer) => answer,
         Ok(p) => match text(alloc, &p) {
