@@ -9,10 +9,10 @@ ghost use Rattle.dc_form.specs.declared.reader.Form.TheVariants.{NoForm};
 
 use crate::cursor::Cursor;
 use crate::expressions::{place_at, read_sum};
-use crate::names::Names;
 use crate::reader::Form;
 use crate::tokens::Token;
 use dc_core::{Expr, Stmt};
+use dc_names::Names;
 use sqlite_items::Items;
 use std::alloc::{AllocError, Global};
 
@@ -20,7 +20,7 @@ use std::alloc::{AllocError, Global};
 fn place_of(names: &Names, statics: u64, word: &Token) -> Option<Expr>
     ensures { option_map expr_view result ≡ body_spec.place_of names.now statics word.now }
 {
-    match names.find(word) {
+    match names.find(word.as_slice()) {
         Some(number) => place_at(statics, number as u64),
         None => None,
     }

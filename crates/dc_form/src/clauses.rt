@@ -8,10 +8,10 @@ ghost use Rattle.dc_form.specs.declared.reader.Form.TheVariants.{NoForm};
 
 use crate::cursor::Cursor;
 use crate::expressions::read_test;
-use crate::names::Names;
 use crate::reader::Form;
 use crate::tokens::Token;
 use dc_core::{Contract, Expr};
+use dc_names::Names;
 use sqlite_items::Items;
 use std::alloc::{AllocError, Global};
 
@@ -37,7 +37,7 @@ fn read_condition(
 fn target_of(names: &Names, statics: u64, word: &Token) -> Option<Expr>
     ensures { option_map expr_view result ≡ clauses.target_of names.now statics word.now }
 {
-    let Some(number) = names.find(word) else {
+    let Some(number) = names.find(word.as_slice()) else {
         return None;
     };
     if (number as u64) < statics {

@@ -9,11 +9,11 @@ ghost use Rattle.dc_form.specs.Read.Reading.{got};
 ghost use Rattle.dc_form.specs.declared.reader.Form.TheVariants.{NoForm};
 
 use crate::cursor::Cursor;
-use crate::names::Names;
 use crate::numbers::number_of;
 use crate::reader::Form;
 use crate::tokens::Token;
 use dc_core::{BinOp, Expr};
+use dc_names::Names;
 use sqlite_items::Boxed;
 use std::alloc::{AllocError, Global};
 
@@ -47,7 +47,7 @@ fn value_of(valued: bool, word: &[u8]) -> Option<Expr>
 fn term_of(names: &Names, statics: u64, valued: bool, word: &Token) -> Option<Expr>
     ensures { option_map expr_view result ≡ expressions.term_of names.now statics valued word.now }
 {
-    match names.find(word) {
+    match names.find(word.as_slice()) {
         Some(number) => place_at(statics, number as u64),
         None => value_of(valued, word.as_slice()),
     }

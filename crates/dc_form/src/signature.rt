@@ -8,10 +8,11 @@ ghost use Rattle.dc_form.specs.Read.Signature as signature;
 ghost use Rattle.dc_form.specs.declared.reader.Form.TheVariants.{NoForm};
 
 use crate::cursor::Cursor;
-use crate::names::Names;
+use crate::names::declare;
 use crate::reader::Form;
 use crate::tokens::Token;
 use dc_core::Name;
+use dc_names::Names;
 use sqlite_items::Items;
 use std::alloc::{AllocError, Global};
 
@@ -42,7 +43,7 @@ fn read_name<'t, 'a>(
     let Some(name) = tokens.next() else {
         return Err(Form::NoForm);
     };
-    names.declare(name)?;
+    declare(names, name)?;
     Ok(name)
 }
 

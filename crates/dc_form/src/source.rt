@@ -9,11 +9,11 @@ ghost use Rattle.dc_form.specs.declared.reader.Form.TheVariants.{NoForm};
 use crate::body::{read_assignments, read_return};
 use crate::clauses::read_clauses;
 use crate::cursor::Cursor;
-use crate::names::Names;
 use crate::reader::Form;
 use crate::signature::{Head, read_head, read_list};
 use crate::tokens::Token;
 use dc_core::{Contract, Function, Program, Stmt};
+use dc_names::Names;
 use sqlite_items::Items;
 use std::alloc::Global;
 

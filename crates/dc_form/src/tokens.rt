@@ -9,7 +9,6 @@ ghost use Rattle.dc_form.specs.declared.reader.Form.TheVariants.{NoForm};
 use crate::reader::Form;
 use dc_core::is_word_byte;
 use std::alloc::{AllocError, Global};
-use std::hash::{Hash, Hasher};
 use std::marker::Model;
 
 /// A token, as its bytes in the source.
@@ -31,13 +30,6 @@ impl<'a> Token<'a> {
         ensures { result.now ≡ self.now }
     {
         self.bytes
-    }
-
-    /// The same token.
-    pub fn again(&self) -> Token<'a>
-        ensures { result ≡ self.now }
-    {
-        Token { bytes: self.bytes }
     }
 }
 
@@ -164,40 +156,5 @@ pub fn lex<'a>(alloc: Global, bytes: &'a [u8]) -> Result<Vec<Token<'a>>, Form>
         };
         push_token(&mut tokens, token)?;
         rest = tail;
-    }
-}
-
-impl<'a> PartialEq for Token<'a> {
-    ghost use Rattle.std.specs.Prelude.{nat_eq};
-    ghost use Rattle.std.specs.Cmp.Lexicographic.{pointwise};
-    ghost use Rattle.std.proofs.lemmas.Cmp.{nat_list_eq_equiv};
-    ghost use Rattle.std.specs.Cmp as Cmp;
-
-    ghost eq = { pointwise nat_eq };
-
-    ghost laws = { Cmp.partial_equiv_from_equiv nat_list_eq_equiv };
-
-    fn eq(&self, other: &Token<'a>) -> bool {
-        self.bytes == other.bytes
-    }
-}
-
-impl<'a> Eq for Token<'a> {
-    ghost use Rattle.std.proofs.lemmas.Cmp.{nat_list_eq_equiv};
-
-    ghost laws = { nat_list_eq_equiv };
-}
-
-impl<'a> Hash for Token<'a> {
-    ghost use Rattle.std.specs.Hash as fed;
-    ghost use Rattle.std.specs.Cmp.Rules.{hashing};
-    ghost use Rattle.std.proofs.Common.{rules};
-
-    ghost hash_input = { fed.slice fed.u8 };
-
-    ghost respects_eq = { Prim.search (hashing, rules) };
-
-    fn hash<H: Hasher>(&self, state: &mut H) {
-        self.bytes.hash(state);
     }
 }

@@ -8,7 +8,8 @@ use Rattle.std.proofs.lemmas.Bool.Decides.{Decides-eqb}
 use Rattle.indexmap.specs.IndexMap.{insert_entry}
 use Rattle.dc_goto.specs.Program.{Sig, Body}
 use Rattle.dc_goto.specs.Machine.{body_of, function_number}
-use Rattle.dc_machine.specs.Index.{same, added, first_place}
+use Rattle.dc_text.specs.Words.{same}
+use Rattle.dc_machine.specs.Index.{added, first_place}
 use Rattle.dc_machine.specs.Linked.{IsIndex}
 
 same-is : (a b : List ℕ) → same a b ≡ true → a ≡ b

@@ -1,10 +1,6 @@
 -- Where names stand in a list.
-use Rattle.std.specs.Prelude.{ℕ, suc, Bool, nat_eq, List, [], ◌∷◌, ◌++◌, Option, None, Some, if◌then◌else◌}
-use Rattle.std.specs.Cmp.Lexicographic.{pointwise}
-
--- the bytes are the same
-abbrev pub same : List ℕ → List ℕ → Bool
-same = pointwise nat_eq
+use Rattle.std.specs.Prelude.{ℕ, suc, List, [], ◌∷◌, ◌++◌, Option, None, Some, if◌then◌else◌}
+use Rattle.dc_text.specs.Words.{same}
 
 -- a name with its place behind the others, unless it has one
 abbrev pub added : List ℕ → ℕ → Option ℕ → List (List ℕ × ℕ) → List (List ℕ × ℕ)

@@ -4,7 +4,8 @@ use Rattle.std.specs.Map.{lookup}
 use Rattle.dc_goto.specs.Program as plain
 use Rattle.dc_goto.specs.Machine.{static_sizes}
 use Rattle.dc_goto.specs.View.{goto_view}
-use Rattle.dc_machine.specs.Index.{same, first_place}
+use Rattle.dc_text.specs.Words.{same}
+use Rattle.dc_machine.specs.Index.{first_place}
 use Rattle.dc_machine.specs.declared.program.Linked.{Linked}
 
 -- an index has the place of the first of each name

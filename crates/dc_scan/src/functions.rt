@@ -6,8 +6,8 @@ ghost use Rattle.dc_core.specs.Words.{same};
 ghost use Rattle.dc_goto.specs.Shape.{place_of, sig_of};
 ghost use Rattle.dc_goto.specs.View.{sig_view};
 
-use crate::names::{NameRef, Names};
 use dc_goto::Sig;
+use dc_names::Names;
 use std::alloc::{AllocError, Global};
 use std::marker::Model;
 
@@ -47,7 +47,7 @@ impl<'a> Functions<'a> {
     }
 
     /// The place of the name in the order of the functions, which is behind them all for a name that isn't theirs.
-    pub fn place(&self, name: &NameRef<'a>) -> usize
+    pub fn place(&self, name: &[u8]) -> usize
         ensures { result ≡ place_of self.now name.now }
     {
         match self.names.find(name) {
@@ -57,7 +57,7 @@ impl<'a> Functions<'a> {
     }
 
     /// The function of that name.
-    pub fn find(&self, name: &NameRef<'a>) -> Option<&'a Sig>
+    pub fn find(&self, name: &[u8]) -> Option<&'a Sig>
         ensures { option_map (λ sig. sig_view sig.now) result ≡ sig_of self.now name.now }
     {
         let place = self.place(name);
@@ -73,7 +73,7 @@ impl<'a> Functions<'a> {
         ensures { OnOk result (self.new ≡ self.old ++ sig_view sig.now ∷ []) }
     {
         self.sigs.reserve(1)?;
-        self.names.push(NameRef::new(&sig.name))?;
+        self.names.push(sig.name.as_slice())?;
         self.sigs.push(sig)?;
         Ok(())
     }

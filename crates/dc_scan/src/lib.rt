@@ -9,7 +9,6 @@ mod form;
 mod functions;
 mod instructions;
 mod lines;
-mod names;
 mod numbers;
 mod rules;
 mod scanner;

@@ -10,7 +10,6 @@ ghost use Rattle.dc_scan.specs.View.{head_view};
 
 use crate::functions::Functions;
 use crate::lines::BodyHead;
-use crate::names::NameRef;
 use dc_core::{NumKind, Term};
 use dc_goto::{Instr, Sig};
 
@@ -124,15 +123,12 @@ pub fn may_act<'a>(
             may_mean(objects, regs, address) && may_mean(objects, regs, len)
         }
         Instr::Call(register, name, arguments) => {
-            may_call(
-                functions.find(&NameRef::new(name)),
-                register,
-                arguments.len(),
-            ) && may_take(regs, register)
+            may_call(functions.find(name.as_slice()), register, arguments.len())
+                && may_take(regs, register)
                 && all_mean(objects, regs, arguments.as_slice())
         }
         Instr::Return(value) => {
-            may_return(functions.find(&NameRef::new(&head.name)), value)
+            may_return(functions.find(head.name.as_slice()), value)
                 && may_give(objects, regs, value)
         }
         Instr::Draw(register, _) => *register < regs,

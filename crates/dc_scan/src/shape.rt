@@ -8,10 +8,10 @@ ghost use Rattle.dc_scan.specs.View.{head_view, line_view};
 
 use crate::functions::Functions;
 use crate::lines::{BodyHead, Line};
-use crate::names::{NameRef, Names};
 use crate::rules::{is_size, leaves, may_act};
 use dc_core::Name;
 use dc_goto::Instr;
+use dc_names::Names;
 use sqlite_items::at;
 use std::alloc::{AllocError, Global};
 
@@ -55,11 +55,11 @@ impl<'a> Front<'a> {
         match line {
             Line::Function(sig) => {
                 self.functions.push(sig)?;
-                self.names.push(NameRef::new(&sig.name))?;
+                self.names.push(sig.name.as_slice())?;
                 Ok(())
             }
             Line::Static(var) => {
-                self.names.push(NameRef::new(&var.name))?;
+                self.names.push(var.name.as_slice())?;
                 Ok(())
             }
             Line::Opening(head) => {
@@ -130,13 +130,13 @@ fn is_behind<'a>(functions: &Functions<'a>, head: Option<&'a BodyHead>, place: u
     ensures { result ≡ behind_is functions.now (option_map (λ head. head_view head.now) head.entry) place }
 {
     match head {
-        Some(head) => functions.place(&NameRef::new(&head.name)) < place,
+        Some(head) => functions.place(head.name.as_slice()) < place,
         None => true,
     }
 }
 
 // How many parameters the function of that name has; the start has none.
-fn params_of<'a>(functions: &Functions<'a>, name: &NameRef<'a>) -> usize
+fn params_of<'a>(functions: &Functions<'a>, name: &[u8]) -> usize
     ensures { result ≡ params_in (sig_of functions.now name.now) }
 {
     match functions.find(name) {
@@ -149,11 +149,11 @@ fn params_of<'a>(functions: &Functions<'a>, name: &NameRef<'a>) -> usize
 fn may_open<'a>(functions: &Functions<'a>, before: Option<&'a BodyHead>, head: &'a BodyHead) -> bool
     ensures { result ≡ opens functions.now (option_map (λ head. head_view head.now) before.entry) (head_view head.now) }
 {
-    let name = NameRef::new(&head.name);
-    let place = functions.place(&name);
+    let name = head.name.as_slice();
+    let place = functions.place(name);
     (place < functions.len() || head.name.is(b".start"))
         && is_behind(functions, before, place)
-        && head.params == params_of(functions, &name) as u64
+        && head.params == params_of(functions, name) as u64
         && head.params <= head.regs
 }
 
@@ -162,7 +162,7 @@ fn may_open<'a>(functions: &Functions<'a>, before: Option<&'a BodyHead>, head: &
 fn may_name<'a>(names: &Names<'a>, name: &'a Name) -> bool
     ensures { result ≡ names_rule names.now name.now }
 {
-    !names.has(&NameRef::new(name)) && names.len() < NAMES_LIMIT
+    !names.has(name.as_slice()) && names.len() < NAMES_LIMIT
 }
 
 // Whether an instruction keeps the rules in the last body.

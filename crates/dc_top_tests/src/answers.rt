@@ -1,7 +1,6 @@
 // Each answer, by the words, the source and the calls of the outside that fail.
-use crate::harness::{
-    EMPTY_FUNCTION, EMPTY_FUNCTION_TEXT, Faults, INSTRUMENT, NO_FAULT, Wanted, assert_gives, run,
-};
+use crate::harness::{EMPTY_FUNCTION, Faults, INSTRUMENT, NO_FAULT, Wanted, assert_gives, run};
+use dc_scan_tests::examples::EMPTY_FUNCTION as EMPTY_FUNCTION_TEXT;
 use std::test::Fail;
 
 const OTHER_FUNCTION: &str = "int a; void g ( void ){}";

@@ -22,21 +22,6 @@ __CPROVER_ensures(g == v + 1)
 
 pub const EMPTY_FUNCTION: &str = "void f(void) {}";
 
-pub const EMPTY_FUNCTION_TEXT: &str = "dcc 1
-function f void
-body f 0 0
-return
-end
-body .start 0 0
-statics
-objects 4
-push
-call - f
-pop
-return
-end
-";
-
 /// The words twice, as a shelf and as the top call take them.
 #[derive(Drop)]
 pub struct Words {

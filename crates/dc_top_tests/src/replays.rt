@@ -1,8 +1,6 @@
 // Replays of texts and sources, by the first file, the choices and the steps.
-use crate::forms::SET_TEXT;
-use crate::harness::{
-    EMPTY_FUNCTION, EMPTY_FUNCTION_TEXT, Faults, NO_FAULT, SET, Wanted, assert_gives, run_both,
-};
+use crate::harness::{EMPTY_FUNCTION, Faults, NO_FAULT, SET, Wanted, assert_gives, run_both};
+use dc_scan_tests::examples::{EMPTY_FUNCTION as EMPTY_FUNCTION_TEXT, SET as SET_TEXT};
 use std::test::Fail;
 
 // A run, and what is wanted of it.

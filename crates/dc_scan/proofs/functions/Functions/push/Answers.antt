@@ -6,5 +6,5 @@ use Rattle.dc_scan.proofs.functions.Functions.push.Goals as goal
 
 pub push-requires : goal.push-requires
 push-requires c =
-    ap (λ name. list_any (same name) c.self.inside.names) c.new.ensures
+    ap (λ name. list_any (same name) c.self.inside.names) c.as_slice.ensures
     ∙ unknown c.args.sig.now.name c.self.inside.sigs.items c.self.inside.names c.args.self.now c.self.invariant c.self.view_is c.requires
