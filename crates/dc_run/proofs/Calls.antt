@@ -1,5 +1,5 @@
 -- Calls in parts.
-use Rattle.std.proofs.Common.{◌≡◌, ℕ, ◌<◌, ◌≤◌, Bool, true, false, ℤ, List, [], ◌∷◌, ◌++◌, length, map, None, refl, ap, sym, ◌∙◌, arith, append-nil, append_assoc, ◌+◌, reverse, get_or, drop, drop-cons, add-one}
+use Rattle.std.proofs.Common.{◌≡◌, ℕ, ◌<◌, ◌≤◌, Bool, true, false, ℤ, List, [], ◌∷◌, ◌++◌, length, map, refl, ap, sym, ◌∙◌, arith, append-nil, append_assoc, ◌+◌, reverse, get_or, drop, drop-cons, add-one}
 use Rattle.std.specs.Prelude.{Result, Ok, Err, IfOk, IsErr}
 use Rattle.std.proofs.lemmas.Bool.Decides.{nat_tests}
 use Rattle.dc_core.specs.Event as plain
@@ -19,7 +19,7 @@ use Rattle.dc_world.specs.declared.report.Which.TheVariants as which
 use Rattle.dc_run.specs.declared.state.Flow.{Flow}
 use Rattle.dc_run.specs.declared.state.Flow.TheVariants as flow
 use Rattle.dc_world.specs.Reported.{dry_at}
-use Rattle.dc_run.specs.Part.{out_of, end_of, goes_on, is_return, HasCome, WasCutOff, IsPart, IsResumed, HasBegun, IsBegun, HasLeft, AllTested, SomeTested, IsTold, IsToldInPart}
+use Rattle.dc_run.specs.Part.{out_of, end_of, is_return, HasCome, WasCutOff, IsPart, IsResumed, HasBegun, IsBegun, HasLeft, AllTested, SomeTested, IsTold}
 use Rattle.std.proofs.lemmas.List.{reverse-append}
 use Rattle.dc_run.proofs.Places.{length-kill_all}
 use Rattle.dc_run.proofs.Parts.{told-two, cut_behind}
@@ -74,24 +74,6 @@ drop_next xs i d x e h = rw (e, add-one i) (drop-cons xs i d h)
 
 -- The end of a body ---------------------------------------------------------------------------------------------
 
-pub finished_other : (f : Function) (g : Flow) (notes : List Note) (st : State) → goes_on g ≡ false → finished f (out_of g notes st) ≡ out_of g notes st
-finished_other f flow.Normal notes st e = cc
-finished_other f (flow.Returned result) notes st e = refl
-finished_other f (flow.Ended x) notes st e = refl
-finished_other f flow.Cut notes st e = refl
-
-pub finished_int : (f : Function) (g : Flow) (notes : List Note) (st : State) → goes_on g ≡ true → f.gives_int ≡ true → finished f (out_of g notes st) ≡ Ended notes (plain.Undefined f.name) st.world
-finished_int f flow.Normal notes st e i = rw i refl
-finished_int f (flow.Returned result) notes st e i = cc
-finished_int f (flow.Ended x) notes st e i = cc
-finished_int f flow.Cut notes st e i = cc
-
-pub finished_void : (f : Function) (g : Flow) (notes : List Note) (st : State) → goes_on g ≡ true → f.gives_int ≡ false → finished f (out_of g notes st) ≡ Returned notes None st
-finished_void f flow.Normal notes st e i = rw i refl
-finished_void f (flow.Returned result) notes st e i = cc
-finished_void f (flow.Ended x) notes st e i = cc
-finished_void f flow.Cut notes st e i = cc
-
 notes-finished : (f : Function) (b : Bool) (o : Out Note) → f.gives_int ≡ b → notes_of (finished f o) ≡ notes_of o
 notes-finished f true (Normal notes st) e = rw e refl
 notes-finished f false (Normal notes st) e = rw e refl
@@ -130,15 +112,6 @@ front-leaving outer (Normal notes st) = ([], sym (append-nil notes))
 front-leaving outer (Returned notes result st) = (map Did (kill_events st.world ++ plain.Return ∷ []), refl)
 front-leaving outer (Ended notes x w) = ([], sym (append-nil notes))
 front-leaving outer (Cut notes w) = ([], sym (append-nil notes))
-
-not_left : (outer : List ℕ) (g : Flow) (notes : List Note) (st : State) → is_return g ≡ false → leaving contract_mode outer (out_of g notes st) ≡ out_of g (notes ++ []) st
-not_left outer flow.Normal notes st e = ap (λ ns. Normal ns st) (sym (append-nil notes))
-not_left outer (flow.Returned result) notes st e = cc
-not_left outer (flow.Ended x) notes st e = ap (λ ns. out_of (flow.Ended x) ns st) (sym (append-nil notes))
-not_left outer flow.Cut notes st e = ap (λ ns. out_of flow.Cut ns st) (sym (append-nil notes))
-
-pub left_otherwise : (outer : List ℕ) (g : Flow) (state : List ℕ → State) (h : Hearing) → is_return g ≡ false → HasLeft outer g state state h h
-left_otherwise outer g state h e = record { more = []; leaves = λ notes choices. not_left outer g notes (state choices) e; heard = refl }
 
 left_by : (outer : List ℕ) (g : Flow) (notes : List Note) (st st' : State) → is_return g ≡ true → st' ≡ record st { world = left outer st.world }
     → leaving contract_mode outer (out_of g notes st) ≡ out_of g (notes ++ map Did (kill_events st.world ++ plain.Return ∷ [])) st'
@@ -235,9 +208,6 @@ cut_tested f arguments w g state h k l a b = record {
 
 -- Tests one after another -----------------------------------------------------------------------------------------
 
-pub told_none : (all : List Note) (h : Hearing) → IsTold all all h h
-told_none all h = record { notes = []; all_notes = refl; heard = refl }
-
 pub told_more : (all rest rest' xs : List Note) (h k l : Hearing) → IsTold all rest h k → rest ≡ xs ++ rest' → l ≡ told xs k → IsTold all rest' h l
 told_more all rest rest' xs h k l p e t = record {
   notes = p.notes ++ xs;
@@ -245,21 +215,9 @@ told_more all rest rest' xs h k l p e t = record {
   heard = told-two p.notes xs h k l p.heard t;
 }
 
-pub told_part : (all rest : List Note) (h h' : Hearing) → IsTold all rest h h' → IsToldInPart all h h'
-told_part all rest h h' p = record { rest = rest; part = p }
-
-pub told_same : (all rest : List Note) (h k l : Hearing) → IsTold all rest h k → l ≡ k → IsToldInPart all h l
-told_same all rest h k l p e = record { rest = rest; part = record { notes = p.notes; all_notes = p.all_notes; heard = e ∙ p.heard } }
-
-pub told_all : (all rest : List Note) (h k : Hearing) → IsTold all rest h k → rest ≡ [] → k ≡ told all h
-told_all all rest h k p e = p.heard ∙ ap (λ ns. told ns h) (sym (p.all_notes ∙ ap (λ ns. p.notes ++ ns) e ∙ append-nil p.notes))
-
 pub tested_more : (name : List ℕ) (k : ℕ) (scope : Scope) (memory : Memory) (all rest : List code.Expr) (x : code.Expr) → all ≡ x ∷ rest
     → tested name k scope memory (map expr_view all) ≡ checked (postcondition_name name k) (holds (value scope memory (expr_view x))) ++ tested name (k + 1) scope memory (map expr_view rest)
 tested_more name k scope memory all rest x e = rw (e, add-one k) refl
-
-pub tested_none : (name : List ℕ) (k : ℕ) (scope : Scope) (memory : Memory) (all : List code.Expr) → all ≡ [] → tested name k scope memory (map expr_view all) ≡ []
-tested_none name k scope memory all e = rw e refl
 
 pub clause_checked : (name : List ℕ) (k : ℕ) (check : List ℕ) (held held' : Bool) (h h' : Hearing) → h' ≡ told (checked check held) h → check ≡ postcondition_name name k → held ≡ held'
     → h' ≡ told (checked (postcondition_name name k) held') h

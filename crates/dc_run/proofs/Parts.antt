@@ -1,11 +1,9 @@
 -- Parts of runs, one after another.
-use Rattle.std.proofs.Common.{◌≡◌, ℕ, true, false, List, [], ◌++◌, refl, ap, sym, ◌∙◌, subst, append_assoc, append-nil}
-use Rattle.std.specs.Prelude.{Result, Ok, Err, IfOk, IsErr}
-use Rattle.dc_core.specs.Event as plain
+use Rattle.std.proofs.Common.{◌≡◌, ℕ, true, false, List, [], ◌++◌, refl, ap, sym, ◌∙◌, append_assoc, append-nil}
+use Rattle.std.specs.Prelude.{Result, Ok, Err, IsErr}
 use Rattle.dc_core.specs.Run.{State, Out, Normal, Returned, Ended, Cut, Note, noted, notes_of, then_do}
 use Rattle.dc_core.proofs.Outs.{noted-nil, noted-noted}
 use Rattle.dc_world.specs.Told.{Hearing, told}
-use Rattle.dc_world.specs.declared.report.End.TheVariants as end
 use Rattle.dc_world.proofs.Drawing.{told-append}
 use Rattle.dc_run.specs.declared.state.Flow.{Flow}
 use Rattle.dc_run.specs.declared.state.Flow.TheVariants as flow
@@ -33,13 +31,6 @@ cut_at_once out h h' e = record { notes = []; front = λ choices. (notes_of (out
 pub part_refused : {E : Type 0} (out : List ℕ → Out Note) (state : List ℕ → State) (r : Result Flow E) (h h' : Hearing) → IsErr r → WasCutOff out h h' → IsPart out state r h h'
 part_refused out state (Ok f) h h' e b = cc
 part_refused out state (Err x) h h' e b = b
-
--- it came to something without meaning, where nothing was told
-pub part_undefined : {E : Type 0} (out : List ℕ → Out Note) (state : List ℕ → State) (name : List ℕ) (r : Result Flow E) (h h' : Hearing)
-    → IfOk r (λ f. f ≡ flow.Ended (end.Undefined name)) → ((choices : List ℕ) → out choices ≡ Ended [] (plain.Undefined name) (state choices).world) → h' ≡ h → IsPart out state r h h'
-part_undefined out state name (Ok f) h h' e o i =
-    subst (λ g. HasCome out state g h h') (sym e) (record { notes = []; comes = o; not_dry = refl; heard = i })
-part_undefined out state name (Err x) h h' e o i = cut_at_once out h h' i
 
 pub part_same : {E : Type 0} (out out' : List ℕ → Out Note) (state : List ℕ → State) (r : Result Flow E) (h h' : Hearing)
     → ((choices : List ℕ) → out choices ≡ out' choices) → IsPart out' state r h h' → IsPart out state r h h'

@@ -1,5 +1,5 @@
 -- Statements one after another, and what is told of a write.
-use Rattle.std.proofs.Common.{◌≡◌, ℕ, zero, suc, Bool, ℤ, List, [], ◌∷◌, ◌++◌, map, Some, refl}
+use Rattle.std.proofs.Common.{◌≡◌, ℕ, zero, suc, Bool, ℤ, List, ◌∷◌, map, Some, refl}
 use Rattle.dc_core.specs.Assertion.{assigns_name}
 use Rattle.dc_core.specs.Contract.{WriteSet, allowed, claimed, judged}
 use Rattle.dc_core.specs.Event as plain
@@ -8,21 +8,9 @@ use Rattle.dc_core.specs.Program.{Expr, Stmt, Assign}
 use Rattle.dc_core.specs.Value.{Body, value, place}
 use Rattle.dc_core.specs.Run.{State, Out, Normal, Note, Did, Failed, tick, tick_at, then_do, contract_mode, with_memory, write, perform, run}
 use Rattle.dc_core.specs.declared.number.NumKind.TheVariants.{S32}
-use Rattle.dc_choice.specs.Heard.{Record}
-use Rattle.dc_world.specs.declared.log.Log.{Log}
-use Rattle.dc_world.specs.Told.{Hearing, fails, told}
-use Rattle.dc_world.specs.Log.{hearing}
+use Rattle.dc_world.specs.Told.{Hearing, told}
 use Rattle.dc_run.specs.declared.state.Flow.TheVariants as flow
 use Rattle.dc_run.specs.Part.{HasCome}
-
--- a name that failed is told
-pub failed_told : (records : List Record) (parts : List ℕ) (before after : Log) (name : List ℕ) → after.failed ≡ before.failed ++ name ∷ [] → after.counts ≡ before.counts
-    → hearing records parts after ≡ fails name (hearing records parts before)
-failed_told records parts before after name f e = rw (f, e) refl
-
-pub failed_same : (records : List Record) (parts : List ℕ) (before after : Log) → after.failed ≡ before.failed → after.counts ≡ before.counts
-    → hearing records parts after ≡ hearing records parts before
-failed_same records parts before after f e = rw (f, e) refl
 
 -- an int was written
 pub written_part : (name : List ℕ) (set : WriteSet) (site place : ℕ) (v : ℤ) (before after : List ℕ → State) (memory new : Memory) (h h' : Hearing)
@@ -63,6 +51,3 @@ tick_then st (suc k) f go = refl
 pub run_more : (name : List ℕ) (set : WriteSet) (places : List ℕ) (all rest : List Stmt) (s : Stmt) (st : State) → all ≡ s ∷ rest
     → run contract_mode name set places all st ≡ then_do (tick st (perform contract_mode name set places s)) (run contract_mode name set places rest)
 run_more name set places all rest s st e = rw e (tick_then st st.left (perform contract_mode name set places s) (run contract_mode name set places rest))
-
-pub run_none : (name : List ℕ) (set : WriteSet) (places : List ℕ) (all : List Stmt) (st : State) → all ≡ [] → run contract_mode name set places all st ≡ Normal [] st
-run_none name set places all st e = rw e refl
