@@ -1,0 +1,11 @@
+use Rattle.std.proofs.Common.{◌≡◌, ◌≤◌, ◌+◌, length}
+use Rattle.std.specs.List.{prefix_len}
+use Rattle.dc_lexer.specs.Reading.{is_in_line}
+use Rattle.dc_lexer.proofs.separators.line_len.Given as goal
+
+abbrev pub invariant-loop-rest : goal.invariant-loop-rest
+invariant-loop-rest l =
+    (prefix_len is_in_line l.bytes + length l.rest ≡ length l.bytes + prefix_len is_in_line l.rest) × (length l.rest ≤ length l.bytes)
+
+abbrev pub decreases-loop-rest : goal.decreases-loop-rest
+decreases-loop-rest l = length l.rest

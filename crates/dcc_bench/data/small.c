@@ -1,0 +1,2 @@
+#include <stdint.h>
+int a; /* no token */ int f(void) { return a+++010; }
