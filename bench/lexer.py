@@ -1,0 +1,67 @@
+#!/usr/bin/env python3
+"""Times the lexer by `dcc_bench lex FILE`, and prints ratios of one run.
+
+    bench/lexer.py [BINARY]        (default: crates/dcc_bench/out/dcc_bench, as `rt run` or `rt ci` leaves it)
+
+Each shape is 1 MiB of one kind of token; a line says how long it takes, and what twice as much costs. Then real C text:
+what gcc makes of some headers, without lines that have a string; a line says how many tokens a second that is, and the
+time beside `gcc -fsyntax-only` on the same text.
+"""
+import os, subprocess, sys, tempfile
+
+MIB = 1_048_576
+RUNS = 5
+HERE = os.path.dirname(os.path.dirname(os.path.abspath(__file__)))
+HEADERS = ["assert", "limits", "stdbool", "stddef", "stdint", "stdlib", "string", "stdio", "math", "unistd", "time"]
+SHAPES = {
+    "parentheses": "(", "braces": "{", "stars": "*", "minuses": "-", "conditions": "if(1)", "questions": "a?",
+    "digits": "7", "open comments": "/*", "slashes": "/", "comments": "/**/", "line comments": "//\n", "newlines": "\n",
+    "line markers": "# 1\n", "includes": "#include <stdint.h>\n", "characters": "'a'", "words": "word ",
+}
+
+
+def once(words):
+    """Seconds of processor time, the greatest memory in KiB and the output of one run."""
+    child = subprocess.Popen(words, stdout=subprocess.PIPE, stderr=subprocess.PIPE)
+    out = child.stdout.read()
+    child.stderr.read()
+    _, _, usage = os.wait4(child.pid, 0)
+    return usage.ru_utime + usage.ru_stime, usage.ru_maxrss, out.decode(errors="replace").strip()
+
+
+def least(words):
+    results = [once(words) for _ in range(RUNS)]
+    return min(r[0] for r in results), max(r[1] for r in results), results[0][2]
+
+
+def timed(binary, path, text):
+    with open(path, "w") as file:
+        file.write(text)
+    return least([binary, "lex", path])
+
+
+def real_text(folder):
+    source = os.path.join(folder, "headers.c")
+    with open(source, "w") as file:
+        file.write("".join("#include <%s.h>\n" % header for header in HEADERS))
+    text = subprocess.run(["gcc", "-E", "-P", source], capture_output=True, text=True, check=True).stdout
+    return "".join(line + "\n" for line in text.split("\n") if '"' not in line)
+
+
+def main():
+    binary = sys.argv[1] if len(sys.argv) > 1 else os.path.join(HERE, "crates", "dcc_bench", "out", "dcc_bench")
+    with tempfile.TemporaryDirectory() as folder:
+        path = os.path.join(folder, "a.c")
+        for name, piece in SHAPES.items():
+            one, memory, said = timed(binary, path, piece * (MIB // len(piece)))
+            two, _, _ = timed(binary, path, piece * (2 * MIB // len(piece)))
+            print("%s: %.3f s, %s, %.0f MiB, twice as much %.2f times" % (name, one, said, memory / 1024, two / one))
+        text = real_text(folder)
+        seconds, memory, said = timed(binary, path, text)
+        gcc, _, _ = least(["gcc", "-fsyntax-only", "-w", path])
+        tokens = int(said.split()[1])
+        print("real text: %d bytes, %s, %.3f s, %.1f million tokens a second, %.2f times gcc -fsyntax-only, %.0f MiB"
+              % (len(text), said, seconds, tokens / seconds / 1e6, seconds / gcc, memory / 1024))
+
+
+main()
