@@ -1,0 +1,9 @@
+pub mod Tokens
+pub mod Names
+pub mod Trees
+pub mod Phrases
+pub mod Grammar
+pub mod Parts
+pub mod Units
+pub mod Reading
+pub mod ReadingUnits
