@@ -490,7 +490,7 @@ definition_complete r q h c d env t all s e k b p rest f le =
     next_is _ (specs_complete r h c env all s s1.mid o.is o.sort (omega (arith, le)) n.ends) ∙ (checked_is _ n.leaves ∙ (if_false _ _ (named_begins (declared s env) s e s1.mid s2.mid s2.first)
     ∙ (next_is _ (named_complete r h c (declared s env) s1.mid e s2.mid (inner s2.first) (omega (arith, le)) z.1) ∙ (if_true _ _ z.0
     ∙ (next_is _ (function_clauses_complete q h d env' t s2.mid k s3.mid s3.first (omega (arith, le)) (no_clause_first w.1 refl)) ∙ (if_true _ _ (begins_is (Marked LeftBrace) w.1)
-    ∙ (next_is _ (d.statement env' t s3.mid b rest y.is bc.0 (omega (arith, le)) bc.1) ∙ found_is all (Definition s e k b) v.place)))))))
+    ∙ (next_is _ (d.statement env' t s3.mid b rest y.is bc.0 (omega (arith, le)) bc.1) ∙ (checked_is _ y.holds ∙ found_is all (Definition s e k b) v.place))))))))
 
 prototype_complete : (r : Reads) (q : PartReads) (h : ℕ) → Complete r h → PartComplete q h → (env : Names) (t : Bool) (all : List Token) (s e : Tree) (k m : Part) (p : Place) (rest : List Token) → Front (Spells env t (Prototype s e k m p)) all rest → height_of (Prototype s e k m p) ≤ suc h → external r q h env all ≡ Found (Prototype s e k m p) rest
 prototype_complete r q h c d env t all s e k m p rest f le =

@@ -8,3 +8,4 @@ pub mod Complete
 pub mod CompleteExpressions
 pub mod CompleteClauses
 pub mod CompleteUnits
+pub mod SoundUnits

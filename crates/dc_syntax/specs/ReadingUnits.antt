@@ -5,7 +5,7 @@ use Rattle.dc_syntax.specs.Tokens.{Word, Marked, Token, Place, break_word, case_
 use Rattle.dc_syntax.specs.Names.{Names, first_names}
 use Rattle.dc_syntax.specs.Trees.{Condition, Tree, has_tag, is_typedef, naming, declared}
 use Rattle.dc_syntax.specs.Phrases.{begins_specs, leaves}
-use Rattle.dc_syntax.specs.Parts.{Part, Single, Braces, NoInits, Inits, Plain, Initialized, NoMoreDeclared, MoreDeclared, NoneDeclared, SomeDeclared, Requires, Ensures, Assigns, Frees, LoopInvariant, Decreases, NoGroups, Groups, NoMoreGroups, MoreGroups, Group, GroupIf, NoClauses, Clauses, Block, Empty, Simple, Return, ReturnValue, Break, Continue, If, IfElse, While, Do, For, Switch, Case, Default, NoStep, Step, FirstDeclaration, NoItems, Items, Declaration, Definition, Prototype, NoExternals, Externals, are_function_clauses, are_loop_clauses, declares_none, declaring, in_force_behind, within_function}
+use Rattle.dc_syntax.specs.Parts.{is_block, Part, Single, Braces, NoInits, Inits, Plain, Initialized, NoMoreDeclared, MoreDeclared, NoneDeclared, SomeDeclared, Requires, Ensures, Assigns, Frees, LoopInvariant, Decreases, NoGroups, Groups, NoMoreGroups, MoreGroups, Group, GroupIf, NoClauses, Clauses, Block, Empty, Simple, Return, ReturnValue, Break, Continue, If, IfElse, While, Do, For, Switch, Case, Default, NoStep, Step, FirstDeclaration, NoItems, Items, Declaration, Definition, Prototype, NoExternals, Externals, are_function_clauses, are_loop_clauses, declares_none, declaring, in_force_behind, within_function}
 use Rattle.dc_syntax.specs.Reading.{Out, Nothing, Found, next, checked, found, begins, eat, Reads, Upto, more, has_more, declarator_named, specs, reads}
 
 -- what has a height of its own
@@ -218,7 +218,7 @@ clauses_end q env all s d c rest = Nothing
 abbrev pub function : PartReads → Names → List Token → Tree → Tree → List Token → Out Part
 function q env all s d ts =
     next (function_clauses q (within_function s d env) ts) (λ c rest.
-    if begins (Marked LeftBrace) rest then next (q StatementOf (within_function s d env) rest) (λ b rest. found all (Definition s d c b) rest)
+    if begins (Marked LeftBrace) rest then next (q StatementOf (within_function s d env) rest) (λ b rest. checked (is_block b) (found all (Definition s d c b) rest))
     else clauses_end q env all s d c rest)
 
 abbrev pub is_function : List Token → Bool
