@@ -9,3 +9,7 @@ pub mod CompleteExpressions
 pub mod CompleteClauses
 pub mod CompleteUnits
 pub mod SoundUnits
+pub mod Scopes
+pub mod Declaring
+pub mod Views
+pub mod Numbered

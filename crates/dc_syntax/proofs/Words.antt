@@ -4,7 +4,7 @@ use Rattle.std.proofs.lemmas.Bool.Decides.{nat_tests}
 use Rattle.dc_syntax.specs.declared.mark.Mark.{Mark}
 use Rattle.dc_syntax.specs.declared.mark.Mark.TheVariants.{LeftParen, RightParen, LeftBracket, RightBracket, LeftBrace, RightBrace, Semicolon, Comma, Colon, Question, Dot, Arrow, Increment, Decrement, Ampersand, Star, Plus, Minus, Tilde, Exclamation, Slash, Percent, ShiftLeft, ShiftRight, Less, Greater, LessEqual, GreaterEqual, EqualEqual, NotEqual, Caret, Bar, AndAnd, OrOr, Implication, Equals, StarEquals, SlashEquals, PercentEquals, PlusEquals, MinusEquals, ShiftLeftEquals, ShiftRightEquals, AmpersandEquals, CaretEquals, BarEquals}
 use Rattle.dc_syntax.specs.declared.keyword.Keyword.{Keyword}
-use Rattle.dc_syntax.specs.declared.keyword.Keyword.TheVariants.{Break, Case, Char, Const, Continue, Default, Do, Else, Enum, Extern, For, If, Inline, Int, Long, Restrict, Return, Short, Signed, Sizeof, Static, Struct, Switch, Typedef, Unsigned, Void, While, Boolean, Forall, Exists, Requires, Ensures, Assigns, Frees, LoopInvariant, Decreases}
+use Rattle.dc_syntax.specs.declared.keyword.Keyword.TheVariants.{Break, Case, Char, Const, Continue, Default, Do, Else, Enum, Extern, For, If, Inline, Int, Long, Restrict, Return, Short, Signed, Sizeof, Static, Struct, Switch, Typedef, Unsigned, Void, While, Boolean, Forall, Exists, Requires, Ensures, Assigns, Frees, LoopInvariant, Decreases, LeftOut}
 use Rattle.dc_syntax.specs.Tokens.{Word, Marked, Reserved, mark_number, keyword_number, is_word}
 
 -- the mark with a number
@@ -61,7 +61,7 @@ mark-at BarEquals = refl
 
 -- the keyword with a number
 abbrev keyword_at : ℕ → Keyword
-keyword_at n = if n == 0 then Break else (if n == 1 then Case else (if n == 2 then Char else (if n == 3 then Const else (if n == 4 then Continue else (if n == 5 then Default else (if n == 6 then Do else (if n == 7 then Else else (if n == 8 then Enum else (if n == 9 then Extern else (if n == 10 then For else (if n == 11 then If else (if n == 12 then Inline else (if n == 13 then Int else (if n == 14 then Long else (if n == 15 then Restrict else (if n == 16 then Return else (if n == 17 then Short else (if n == 18 then Signed else (if n == 19 then Sizeof else (if n == 20 then Static else (if n == 21 then Struct else (if n == 22 then Switch else (if n == 23 then Typedef else (if n == 24 then Unsigned else (if n == 25 then Void else (if n == 26 then While else (if n == 27 then Boolean else (if n == 28 then Forall else (if n == 29 then Exists else (if n == 30 then Requires else (if n == 31 then Ensures else (if n == 32 then Assigns else (if n == 33 then Frees else (if n == 34 then LoopInvariant else (Decreases)))))))))))))))))))))))))))))))))))
+keyword_at n = if n == 0 then Break else (if n == 1 then Case else (if n == 2 then Char else (if n == 3 then Const else (if n == 4 then Continue else (if n == 5 then Default else (if n == 6 then Do else (if n == 7 then Else else (if n == 8 then Enum else (if n == 9 then Extern else (if n == 10 then For else (if n == 11 then If else (if n == 12 then Inline else (if n == 13 then Int else (if n == 14 then Long else (if n == 15 then Restrict else (if n == 16 then Return else (if n == 17 then Short else (if n == 18 then Signed else (if n == 19 then Sizeof else (if n == 20 then Static else (if n == 21 then Struct else (if n == 22 then Switch else (if n == 23 then Typedef else (if n == 24 then Unsigned else (if n == 25 then Void else (if n == 26 then While else (if n == 27 then Boolean else (if n == 28 then Forall else (if n == 29 then Exists else (if n == 30 then Requires else (if n == 31 then Ensures else (if n == 32 then Assigns else (if n == 33 then Frees else (if n == 34 then LoopInvariant else (if n == 35 then Decreases else LeftOut)))))))))))))))))))))))))))))))))))
 
 keyword-at : (k : Keyword) → keyword_at (keyword_number k) ≡ k
 keyword-at Break = refl
@@ -100,6 +100,7 @@ keyword-at Assigns = refl
 keyword-at Frees = refl
 keyword-at LoopInvariant = refl
 keyword-at Decreases = refl
+keyword-at LeftOut = refl
 
 abbrev true_false : Bool → Type 0
 true_false true = Unit {0}

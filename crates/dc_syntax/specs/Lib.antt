@@ -7,3 +7,7 @@ pub mod Parts
 pub mod Units
 pub mod Reading
 pub mod ReadingUnits
+pub mod WordView
+pub mod View
+pub mod Scopes
+pub mod Lexed

@@ -3,7 +3,7 @@ use Rattle.std.specs.Prelude.{ℕ, Bool, true, false, ◌==◌, List, [], ◌∷
 use Rattle.dc_syntax.specs.declared.mark.Mark.{Mark}
 use Rattle.dc_syntax.specs.declared.mark.Mark.TheVariants.{LeftParen, RightParen, LeftBracket, RightBracket, LeftBrace, RightBrace, Semicolon, Comma, Colon, Question, Dot, Arrow, Increment, Decrement, Ampersand, Star, Plus, Minus, Tilde, Exclamation, Slash, Percent, ShiftLeft, ShiftRight, Less, Greater, LessEqual, GreaterEqual, EqualEqual, NotEqual, Caret, Bar, AndAnd, OrOr, Implication, Equals, StarEquals, SlashEquals, PercentEquals, PlusEquals, MinusEquals, ShiftLeftEquals, ShiftRightEquals, AmpersandEquals, CaretEquals, BarEquals}
 use Rattle.dc_syntax.specs.declared.keyword.Keyword.{Keyword}
-use Rattle.dc_syntax.specs.declared.keyword.Keyword.TheVariants.{Break, Case, Char, Const, Continue, Default, Do, Else, Enum, Extern, For, If, Inline, Int, Long, Restrict, Return, Short, Signed, Sizeof, Static, Struct, Switch, Typedef, Unsigned, Void, While, Boolean, Forall, Exists, Requires, Ensures, Assigns, Frees, LoopInvariant, Decreases}
+use Rattle.dc_syntax.specs.declared.keyword.Keyword.TheVariants.{Break, Case, Char, Const, Continue, Default, Do, Else, Enum, Extern, For, If, Inline, Int, Long, Restrict, Return, Short, Signed, Sizeof, Static, Struct, Switch, Typedef, Unsigned, Void, While, Boolean, Forall, Exists, Requires, Ensures, Assigns, Frees, LoopInvariant, Decreases, LeftOut}
 
 -- what a token is: a name, a literal, a mark or a keyword (C11 6.4)
 pub data Word : Type 0 where
@@ -181,6 +181,7 @@ keyword_number Assigns = 32
 keyword_number Frees = 33
 keyword_number LoopInvariant = 34
 keyword_number Decreases = 35
+keyword_number LeftOut = 36
 
 -- is the second this mark or keyword?
 abbrev pub is_word : Word → Word → Bool

@@ -75,4 +75,6 @@ pub enum Keyword {
     LoopInvariant,
     /// `__CPROVER_decreases`
     Decreases,
+    /// What stands in no alternative: a keyword of C that the profile leaves out
+    LeftOut,
 }

@@ -1,9 +1,23 @@
 //! The grammar of C in the profile: which tokens spell which tree.
 #![tactic(auto)]
 
+mod declare;
+mod entry;
+mod key;
 mod keyword;
 pub mod laws;
+mod lexed;
 mod mark;
+mod place;
+mod raw;
+mod token;
+mod typedefs;
 
+pub use declare::declare_specs;
 pub use keyword::Keyword;
+pub use lexed::grammar_tokens;
 pub use mark::Mark;
+pub use place::Place;
+pub use raw::{Raw, Tag};
+pub use token::{Token, Word};
+pub use typedefs::Typedefs;
