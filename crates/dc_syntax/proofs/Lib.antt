@@ -11,5 +11,6 @@ pub mod CompleteUnits
 pub mod SoundUnits
 pub mod Scopes
 pub mod Declaring
+pub mod InForce
 pub mod Views
 pub mod Numbered

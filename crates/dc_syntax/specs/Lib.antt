@@ -9,5 +9,6 @@ pub mod Reading
 pub mod ReadingUnits
 pub mod WordView
 pub mod View
+pub mod UnitView
 pub mod Scopes
 pub mod Lexed

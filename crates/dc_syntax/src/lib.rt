@@ -3,6 +3,7 @@
 
 mod declare;
 mod entry;
+mod in_force;
 mod key;
 mod keyword;
 pub mod laws;
@@ -12,8 +13,12 @@ mod place;
 mod raw;
 mod token;
 mod typedefs;
+mod unit;
 
 pub use declare::declare_specs;
+pub use in_force::{
+    declare_function, declare_within_function, first_typedefs, has_tag, is_typedef,
+};
 pub use keyword::Keyword;
 pub use lexed::grammar_tokens;
 pub use mark::Mark;
@@ -21,3 +26,4 @@ pub use place::Place;
 pub use raw::{Raw, Tag};
 pub use token::{Token, Word};
 pub use typedefs::Typedefs;
+pub use unit::{Part, Unit};

@@ -1,0 +1,8 @@
+use Rattle.std.proofs.Common.{◌≡◌, drop}
+use Rattle.std.specs.List.{list_any}
+use Rattle.dc_syntax.specs.Trees.{is_typedef_spec}
+use Rattle.dc_syntax.specs.View.{raw_view}
+use Rattle.dc_syntax.proofs.in_force.is_typedef.Given as goal
+
+abbrev pub invariant-loop-spec : goal.invariant-loop-spec
+invariant-loop-spec l = list_any (λ s. is_typedef_spec (raw_view s)) (drop l.spec-index l.specs) ≡ list_any (λ s. is_typedef_spec (raw_view s)) l.specs
