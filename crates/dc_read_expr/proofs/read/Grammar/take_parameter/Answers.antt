@@ -1,0 +1,14 @@
+use Rattle.std.proofs.Common.{Ok, ap, ◌∙◌}
+use Rattle.dc_syntax.specs.Reading as spec
+use Rattle.dc_read_expr.proofs.Results.{read_from}
+use Rattle.dc_read_expr.proofs.read.Grammar.take_parameter.Goals as goal
+
+pub returns : goal.returns
+returns g c =
+    let f = c.args.self.now in
+    record {
+      read = c.in-Some.member;
+      is = read_from f.tokens.now _ c.behind.result f.budget c.in-Some.member (spec.parameter (spec.reads f.budget) f.budget c.args.scope.now.names) c.parameter.result c.parameter.ensures c.behind.ensures
+          (c.in_ok-member.was ∙ ap Ok c.in-Some.is);
+      pushed = c.in_ok-push_read.ensures;
+    }

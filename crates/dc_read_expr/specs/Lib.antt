@@ -1,0 +1,10 @@
+pub mod View
+pub mod Nests
+pub mod Expressions
+pub mod Levels
+pub mod Bodies
+pub mod Qualifiers
+pub mod Quantified
+pub mod ParameterLists
+pub mod Suffixes
+pub mod Taking
