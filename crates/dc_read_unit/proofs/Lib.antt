@@ -1,0 +1,10 @@
+pub mod Lists
+pub mod Answered
+pub mod ClauseLists
+pub mod ClauseTests
+pub mod Groups
+pub mod Grouped
+pub mod Steps
+pub mod Heights
+pub mod UnitLists
+pub mod WholeUnits

@@ -1,0 +1,7 @@
+pub mod PartView
+pub mod PartTaking
+pub mod ClauseParts
+pub mod InitParts
+pub mod PartNests
+pub mod StatementParts
+pub mod ExternalParts
