@@ -1,9 +1,11 @@
 #!/usr/bin/env python3
-"""Times the lexer by `dcc_bench lex FILE`, and prints ratios of one run.
+"""Times the lexer by `dcc_bench lex FILE` and the readers by `dcc_bench read_expr FILE` and `dcc_bench read_unit FILE`, and prints ratios of one run.
 
     bench/lexer.py [BINARY]        (default: crates/dcc_bench/out/dcc_bench, as `rt run` or `rt ci` leaves it)
 
-Each shape is 1 MiB of one kind of token; a line says how long it takes, and what twice as much costs. Then real C text:
+Each shape is 1 MiB of one kind of token; a line says how long a call takes, and what twice as much costs. `read_expr` reads
+the first expression, after the lexer: at most 128 high, so much of a shape is only lexed; `read_unit` reads all tokens or none.
+Then real C text:
 what gcc makes of some headers, without lines that have a string; a line says how many tokens a second that is, and the
 time beside `gcc -fsyntax-only` on the same text.
 """
@@ -18,6 +20,16 @@ SHAPES = {
     "digits": "7", "open comments": "/*", "slashes": "/", "comments": "/**/", "line comments": "//\n", "newlines": "\n",
     "line markers": "# 1\n", "includes": "#include <stdint.h>\n", "characters": "'a'", "words": "word ",
 }
+EXPRESSIONS = {
+    "parentheses": "(", "braces": "{", "stars": "*", "minuses": "-", "conditions": "if(1)", "questions": "a?", "digits": "7 ",
+    "sums": "a+", "calls": "f(", "arguments": "a,", "indices": "a[", "sizeofs": "sizeof(", "implications": "a==>", "members": "a.",
+}
+UNITS = {
+    "parentheses": "(", "braces": "{", "stars": "*", "minuses": "-", "conditions": "if(1)", "questions": "a?", "digits": "7 ",
+    "declarations": "int x;", "declarators": "x,", "initializers": "1,", "functions": "void f(void){a=1;}", "statements": "a=1;", "clauses": "__CPROVER_requires(1)",
+}
+# a front before a shape, so that all of it is a list
+LISTS = {"arguments": "f(", "declarators": "int ", "initializers": "int x[]={", "statements": "void f(void){", "clauses": "void f(void)"}
 
 
 def once(words):
@@ -34,10 +46,18 @@ def least(words):
     return min(r[0] for r in results), max(r[1] for r in results), results[0][2]
 
 
-def timed(binary, path, text):
+def timed(binary, call, path, text):
     with open(path, "w") as file:
         file.write(text)
-    return least([binary, "lex", path])
+    return least([binary, call, path])
+
+
+def shapes(binary, call, path, pieces, fronts):
+    for name, piece in pieces.items():
+        front = fronts.get(name, "")
+        one, memory, said = timed(binary, call, path, front + piece * (MIB // len(piece)))
+        two, _, _ = timed(binary, call, path, front + piece * (2 * MIB // len(piece)))
+        print("%s, %s: %.3f s, %s, %.0f MiB, twice as much %.2f times" % (call, name, one, said, memory / 1024, two / one))
 
 
 def real_text(folder):
@@ -52,12 +72,11 @@ def main():
     binary = sys.argv[1] if len(sys.argv) > 1 else os.path.join(HERE, "crates", "dcc_bench", "out", "dcc_bench")
     with tempfile.TemporaryDirectory() as folder:
         path = os.path.join(folder, "a.c")
-        for name, piece in SHAPES.items():
-            one, memory, said = timed(binary, path, piece * (MIB // len(piece)))
-            two, _, _ = timed(binary, path, piece * (2 * MIB // len(piece)))
-            print("%s: %.3f s, %s, %.0f MiB, twice as much %.2f times" % (name, one, said, memory / 1024, two / one))
+        shapes(binary, "lex", path, SHAPES, {})
+        shapes(binary, "read_expr", path, EXPRESSIONS, LISTS)
+        shapes(binary, "read_unit", path, UNITS, LISTS)
         text = real_text(folder)
-        seconds, memory, said = timed(binary, path, text)
+        seconds, memory, said = timed(binary, "lex", path, text)
         gcc, _, _ = least(["gcc", "-fsyntax-only", "-w", path])
         tokens = int(said.split()[1])
         print("real text: %d bytes, %s, %.3f s, %.1f million tokens a second, %.2f times gcc -fsyntax-only, %.0f MiB"

@@ -1,15 +1,67 @@
-// Times calls that no command reaches yet: `dcc_bench lex FILE`.
+// Times calls that no command reaches yet: `dcc_bench lex FILE`, `dcc_bench read_expr FILE` and `dcc_bench read_unit FILE`.
 #![tactic(auto)]
 
-use dc_lexer::{Lex, lex};
+use dc_lexer::{Lex, Tokens, lex};
+use dc_read_expr::{Syntax, read_expr};
+use dc_read_unit::read_unit;
+use dc_syntax::{Typedefs, grammar_tokens};
 use std::alloc::{AllocError, Global};
 use std::process::ExitCode;
 use std::{env, fs};
 
-// What lexing the bytes gives, as a line.
-fn lexed(alloc: Global, bytes: &[u8]) -> Result<String, AllocError> {
+// The call that is timed.
+#[derive(Clone, Copy)]
+enum Call {
+    Lex,
+    ReadExpr,
+    ReadUnit,
+}
+
+// The call of this name.
+fn call_of(word: &str) -> Option<Call> {
+    if word == "lex" {
+        return Some(Call::Lex);
+    }
+    if word == "read_expr" {
+        return Some(Call::ReadExpr);
+    }
+    if word == "read_unit" {
+        return Some(Call::ReadUnit);
+    }
+    None
+}
+
+// How far the expression goes that is read from the first token on.
+fn expression(alloc: Global, source: &Tokens) -> Result<String, AllocError> {
+    let tokens = grammar_tokens(alloc, source)?;
+    let names = Typedefs::new(alloc);
+    match read_expr(alloc, tokens.as_slice(), 0, &names) {
+        Ok((_, end)) => format!(in alloc; "expression up to {end} of {}", tokens.len()),
+        Err(Syntax::NoReading) => format!(in alloc; "no reading of {}", tokens.len()),
+        Err(Syntax::Memory(error)) => Err(error),
+    }
+}
+
+// How many declarations and definitions the unit has.
+fn unit(alloc: Global, source: &Tokens) -> Result<String, AllocError> {
+    let tokens = grammar_tokens(alloc, source)?;
+    match read_unit(alloc, tokens.as_slice()) {
+        Ok(unit) => {
+            format!(in alloc; "unit with {} parts of {}", unit.externals.len(), tokens.len())
+        }
+        Err(Syntax::NoReading) => format!(in alloc; "no reading of {}", tokens.len()),
+        Err(Syntax::Memory(error)) => Err(error),
+    }
+}
+
+// What the call gives, as a line.
+fn answer(alloc: Global, call: Call, bytes: &[u8]) -> Result<String, AllocError> {
     match lex(alloc, bytes) {
-        Ok(tokens) => format!(in alloc; "tokens {}", tokens.len()),
+        Ok(tokens) => match call {
+            Call::Lex => format!(in alloc; "tokens {}", tokens.len()),
+            Call::ReadExpr => expression(alloc, &tokens),
+            Call::ReadUnit => unit(alloc, &tokens),
+        },
         Err(Lex::Byte(at)) => format!(in alloc; "byte {at}"),
         Err(Lex::Wide(at)) => format!(in alloc; "wide {at}"),
         Err(Lex::Directive(line)) => format!(in alloc; "directive {line}"),
@@ -20,14 +72,14 @@ fn lexed(alloc: Global, bytes: &[u8]) -> Result<String, AllocError> {
 fn main(rt: HostRuntime) -> Result<ExitCode, anyhow::Error> {
     let alloc = rt.alloc();
     let words: Vec<String> = env::args(&rt)?.collect(alloc)?;
-    let [_, call, path] = words.as_slice() else {
+    let [_, word, path] = words.as_slice() else {
         return Ok(ExitCode::from(2));
     };
-    if call.as_str() != "lex" {
+    let Some(call) = call_of(word.as_str()) else {
         return Ok(ExitCode::from(2));
-    }
+    };
     let bytes = fs::read(&rt, path.as_str())?;
-    let line = lexed(alloc, &bytes)?;
+    let line = answer(alloc, call, &bytes)?;
     println!(rt; "{line}")?;
     Ok(ExitCode::from(0))
 }
