@@ -47,7 +47,11 @@ fn unit(alloc: Global, source: &Tokens) -> Result<String, AllocError> {
     let tokens = grammar_tokens(alloc, source)?;
     match read_unit(alloc, tokens.as_slice()) {
         Ok(unit) => {
-            format!(in alloc; "unit with {} parts of {}", unit.externals.len(), tokens.len())
+            format!(in alloc;
+                "unit with {} parts of {}",
+                unit.externals.len(),
+                tokens.len()
+            )
         }
         Err(Syntax::NoReading) => format!(in alloc; "no reading of {}", tokens.len()),
         Err(Syntax::Memory(error)) => Err(error),
