@@ -49,11 +49,11 @@ pub no_end_by_brace : (tokens : List Token) (from : ℕ) → begins (Marked Comm
 no_end_by_brace tokens from comma brace = ap (either (drop from tokens)) comma ∙ uneaten (Marked RightBrace) (drop from tokens) (Found true) brace
 
 -- what stands behind a token that is eaten, as a step of its own
-eat_next : {A : Type 0} (w : Word) (ts : List Token) (go : List Token → Out A) → eat w ts go ≡ next (eat w ts (Found true)) (λ b rest. go rest)
-eat_next w [] go = refl
-eat_next w (t ∷ ts) go = by (is_word w t.word)
+pub eat_next : {A B : Type 0} (w : Word) (ts : List Token) (c : A) (go : A → List Token → Out B) → eat w ts (λ rest. go c rest) ≡ next (eat w ts (λ rest. Found c rest)) go
+eat_next w [] c go = refl
+eat_next w (t ∷ ts) c go = by (is_word w t.word)
   where
-    by : (b : Bool) → (if b then go ts else Nothing) ≡ next (if b then Found true ts else Nothing) (λ b rest. go rest)
+    by : (b : Bool) → (if b then go c ts else Nothing) ≡ next (if b then Found c ts else Nothing) go
     by true = refl
     by false = refl
 
@@ -63,10 +63,10 @@ list_end_next [] go = refl
 list_end_next (t ∷ ts) go = by (is_word (Marked Comma) t.word)
   where
     behind : (b : Bool) → (if b then eat (Marked RightBrace) ts go else Nothing) ≡ next (if b then eat (Marked RightBrace) ts (Found true) else Nothing) (λ b rest. go rest)
-    behind true = eat_next (Marked RightBrace) ts go
+    behind true = eat_next (Marked RightBrace) ts true (λ b rest. go rest)
     behind false = refl
 
     by : (b : Bool) → (if b then (if is_word (Marked Comma) t.word then eat (Marked RightBrace) ts go else Nothing) else eat (Marked RightBrace) (t ∷ ts) go)
         ≡ next (if b then (if is_word (Marked Comma) t.word then eat (Marked RightBrace) ts (Found true) else Nothing) else eat (Marked RightBrace) (t ∷ ts) (Found true)) (λ b rest. go rest)
     by true = behind (is_word (Marked Comma) t.word)
-    by false = eat_next (Marked RightBrace) (t ∷ ts) go
+    by false = eat_next (Marked RightBrace) (t ∷ ts) true (λ b rest. go rest)

@@ -3,7 +3,7 @@ use Rattle.std.proofs.Common.{◌≡◌, ℕ, Bool, true, false, if◌then◌els
 use Rattle.dc_syntax.specs.declared.mark.Mark.TheVariants.{LeftBrace, RightBrace, Semicolon}
 use Rattle.dc_syntax.specs.declared.keyword.Keyword.{Keyword}
 use Rattle.dc_syntax.specs.declared.raw.Raw.TheViews as raw
-use Rattle.dc_syntax.specs.Tokens.{Word, Token, Place, Marked, is_word}
+use Rattle.dc_syntax.specs.Tokens.{Token, Place, Marked, is_word}
 use Rattle.dc_syntax.specs.Names.{Names}
 use Rattle.dc_syntax.specs.Trees.{Tree, Quantifier, naming, height}
 use Rattle.dc_syntax.specs.Reading.{Out, Nothing, Found, Reads, Upto, next, eat, between, found, quantified, bare, declarator_named}
@@ -13,17 +13,10 @@ use Rattle.dc_read_expr.specs.declared.types.ReadSpecs.{ReadSpecs}
 use Rattle.dc_read_expr.specs.View.{IsReading, IsNext}
 use Rattle.dc_read_expr.specs.Quantified.{condition_behind, quantifier_behind}
 use Rattle.dc_read_expr.proofs.Bare.{bare_next}
+use Rattle.dc_read_expr.proofs.Eating.{eat_next}
 use Rattle.dc_read_expr.proofs.Placed.{placed_reading}
 use Rattle.dc_read_expr.proofs.Pointers.{eat_at}
 use Rattle.dc_read_expr.proofs.Shapes.{raw_view-Quantifier}
-
-eat_next : (w : Word) (ts : List Token) (c : Tree) (go : Tree → List Token → Out Tree) → eat w ts (λ rest. go c rest) ≡ next (eat w ts (λ rest. Found c rest)) go
-eat_next w [] c go = refl
-eat_next w (t ∷ ts) c go = by (is_word w t.word)
-  where
-    by : (b : Bool) → (if b then go c ts else Nothing) ≡ next (if b then Found c ts else Nothing) go
-    by true = refl
-    by false = refl
 
 pub condition_next : (r : Reads) (env : Names) (d : Tree) (ts : List Token) (go : Tree → List Token → Out Tree)
     → eat (Marked Semicolon) ts (λ ts. next (r (Upto 15) (naming d false env) ts) (λ c rest. eat (Marked RightBrace) rest (λ rest. go c rest))) ≡ next (condition_behind r env d ts) go

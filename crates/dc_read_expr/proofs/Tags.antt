@@ -64,14 +64,14 @@ tagged_low h all body alone tokens at n is lt =
     tagged_name h all body alone tokens at n is
     ∙ ap (λ b. checked b (behind_name all body alone (drop at tokens) n (drop (at + 1) tokens) (begins (Marked LeftBrace) (drop (at + 1) tokens)))) (not_le_one h lt)
 
-pub tagged_body : (h : ℕ) (all : List Token) (body : Body) (alone : Alone) (tokens : List Token) (at : ℕ) (n : List ℕ) → IsNext tokens at (Named n) → 1 ≤ h → begins (Marked LeftBrace) (drop (at + 1) tokens) ≡ true
+tagged_body : (h : ℕ) (all : List Token) (body : Body) (alone : Alone) (tokens : List Token) (at : ℕ) (n : List ℕ) → IsNext tokens at (Named n) → 1 ≤ h → begins (Marked LeftBrace) (drop (at + 1) tokens) ≡ true
     → tagged h all body alone (drop at tokens) ≡ body (Tagged n (between (drop at tokens) (drop (at + 1) tokens))) (drop (at + 1) tokens)
 tagged_body h all body alone tokens at n is le brace =
     tagged_name h all body alone tokens at n is
     ∙ (ap (λ b. checked b (behind_name all body alone (drop at tokens) n (drop (at + 1) tokens) (begins (Marked LeftBrace) (drop (at + 1) tokens)))) (le_one h le)
     ∙ ap (behind_name all body alone (drop at tokens) n (drop (at + 1) tokens)) brace)
 
-pub tagged_alone : (h : ℕ) (all : List Token) (body : Body) (alone : Alone) (tokens : List Token) (at : ℕ) (n : List ℕ) → IsNext tokens at (Named n) → 1 ≤ h → begins (Marked LeftBrace) (drop (at + 1) tokens) ≡ false
+tagged_alone : (h : ℕ) (all : List Token) (body : Body) (alone : Alone) (tokens : List Token) (at : ℕ) (n : List ℕ) → IsNext tokens at (Named n) → 1 ≤ h → begins (Marked LeftBrace) (drop (at + 1) tokens) ≡ false
     → tagged h all body alone (drop at tokens) ≡ Found (alone n (between all (drop (at + 1) tokens))) (drop (at + 1) tokens)
 tagged_alone h all body alone tokens at n is le brace =
     tagged_name h all body alone tokens at n is
@@ -126,7 +126,7 @@ tagged_by h all body alone tokens at end n name p is le e brace named place =
     ∙ (ap (λ k. body (Tagged n (between (drop at tokens) (drop k tokens))) (drop k tokens)) (sym e)
     ∙ (ap (λ p. body (Tagged n p) (drop end tokens)) (sym place) ∙ ap (λ n. body (Tagged n p) (drop end tokens)) (sym named)))
 
-pub tagged_by_name : (h : ℕ) (all : List Token) (body : Body) (alone : Alone) (tokens : List Token) (at end : ℕ) (n : List ℕ) → IsNext tokens at (Named n) → 1 ≤ h → end ≡ at + 1
+tagged_by_name : (h : ℕ) (all : List Token) (body : Body) (alone : Alone) (tokens : List Token) (at end : ℕ) (n : List ℕ) → IsNext tokens at (Named n) → 1 ≤ h → end ≡ at + 1
     → begins (Marked LeftBrace) (drop end tokens) ≡ false → tagged h all body alone (drop at tokens) ≡ Found (alone n (between all (drop end tokens))) (drop end tokens)
 tagged_by_name h all body alone tokens at end n is le e brace =
     tagged_alone h all body alone tokens at n is le (ap (λ k. begins (Marked LeftBrace) (drop k tokens)) (sym e) ∙ brace)
@@ -144,6 +144,13 @@ alone_reading alone tokens from end limit n name p read out is named viewed one 
   after = omega (arith, at, lt);
   within = omega (arith, at, within);
 }
+
+-- behind `struct` or `enum` stands a name alone
+pub tag_reading : (body : Body) (alone : Alone) (tokens : List Token) (from next end limit : ℕ) (n name : List ℕ) (p : Place) (read : Read) (out : Out Tree) → out ≡ tagged limit (drop from tokens) body alone (drop next tokens) → next ≡ from + 1
+    → IsNext tokens next (Named n) → end ≡ next + 1 → begins (Marked LeftBrace) (drop end tokens) ≡ false → name ≡ n → raw_view read.tree ≡ alone name p → height (alone name p) ≡ 1
+    → p ≡ between (drop from tokens) (drop end tokens) → 1 ≤ limit → read.height ≡ 1 → read.at ≡ end → IsReading tokens from limit read out
+tag_reading body alone tokens from next end limit n name p read out is behind there e brace named viewed one place le high at =
+    alone_reading alone tokens from end limit n name p read out (is ∙ tagged_by_name limit (drop from tokens) body alone tokens next end n there le e brace) named viewed one place le (omega (arith, behind, e)) (omega (arith, e, there.within)) high at
 
 pub raw_view-SpecName : (n : List ℕ) (p : Place) → raw_view (raw.SpecName n p) ≡ SpecName n p
 unfolding raw.roll-Raw denote.Hole.Carrier.roll

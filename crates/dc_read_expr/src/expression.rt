@@ -15,7 +15,10 @@ use std::alloc::Global;
 const GREATEST_HEIGHT: u64 = 128;
 
 /// The longest expression (C11 6.5) of height at most 128 that begins at this place, counted from 0, with these names in
-/// force, and the place behind it. `NoReading` where there is none, as behind the last token.
+/// force, and the place behind it.
+///
+/// The error is `NoReading` exactly where there is none, as behind the last token, if memory doesn't run out first.
+/// It is `Memory` where there is no memory for the tree or for what is in force, and nothing of the tree is left then.
 pub fn read_expr(
     alloc: Global,
     tokens: &[Token<'_>],

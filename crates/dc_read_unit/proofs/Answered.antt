@@ -2,13 +2,14 @@
 use Rattle.std.proofs.Common.{◌≡◌, ℕ, ◌<◌, ◌≤◌, Bool, true, false, List, length, drop, Option, Some, None, Result, Ok, sym, ap, ◌∙◌, subst, arith}
 use Rattle.std.specs.declared.alloc.AllocError.{AllocError}
 use Rattle.dc_syntax.specs.Tokens.{Token, Place}
+use Rattle.dc_syntax.specs.Names.{Names}
 use Rattle.dc_syntax.specs.Parts.{Part, height_of}
 use Rattle.dc_syntax.specs.Reading.{Out, Nothing, Found, between}
 use Rattle.dc_syntax.specs.UnitView.{part_view}
 use Rattle.dc_read_unit.specs.declared.read.ReadPart.{ReadPart}
 use Rattle.dc_read_unit.specs.declared.read.ReadParts.{ReadParts}
 use Rattle.dc_read_unit.specs.PartView.{Parting, IsPart, PartsListing, IsParts}
-use Rattle.dc_read_unit.specs.PartTaking.{TakingPart, IsTakenPart}
+use Rattle.dc_read_unit.specs.PartTaking.{TakingPart, IsTakenPart, DeclaringPart, IsDeclaredPart}
 
 pub part_some : (tokens : List Token) (from limit : ℕ) (r : ReadPart) (out : Out Part) (result : Result (Option ReadPart) AllocError) → Parting tokens from limit result out → result ≡ Ok (Some r) → IsPart tokens from limit r out
 part_some tokens from limit r out result q e = subst (λ o. Parting tokens from limit o out) e q
@@ -37,6 +38,13 @@ part_taken tokens from limit old new b out q e = subst (λ b. TakingPart tokens 
 
 pub part_untaken : (tokens : List Token) (from limit : ℕ) (old new : ReadParts) (b : Bool) (out : Out Part) → TakingPart tokens from limit old new (Ok b) out → b ≡ false → out ≡ Nothing
 part_untaken tokens from limit old new b out q e = subst (λ b. TakingPart tokens from limit old new (Ok b) out) e q
+
+pub part_declared : (tokens : List Token) (from limit : ℕ) (old new : ReadParts) (env' : Names) (behind : Part → Names) (b : Bool) (out : Out Part) → DeclaringPart tokens from limit old new env' behind (Ok b) out → b ≡ true
+    → IsDeclaredPart tokens from limit old new env' behind out
+part_declared tokens from limit old new env' behind b out q e = subst (λ b. DeclaringPart tokens from limit old new env' behind (Ok b) out) e q
+
+pub part_undeclared : (tokens : List Token) (from limit : ℕ) (old new : ReadParts) (env' : Names) (behind : Part → Names) (b : Bool) (out : Out Part) → DeclaringPart tokens from limit old new env' behind (Ok b) out → b ≡ false → out ≡ Nothing
+part_undeclared tokens from limit old new env' behind b out q e = subst (λ b. DeclaringPart tokens from limit old new env' behind (Ok b) out) e q
 
 -- a part with its place, made of what the definition reads
 pub placed_part : (tokens : List Token) (from end limit : ℕ) (node : Place → Part) (p : Place) (read : ReadPart) (out : Out Part) → out ≡ Found (node (between (drop from tokens) (drop end tokens))) (drop end tokens)

@@ -5,6 +5,7 @@ pub mod ClauseTests
 pub mod Groups
 pub mod Grouped
 pub mod Steps
+pub mod MarkTests
 pub mod Heights
 pub mod UnitLists
 pub mod WholeUnits

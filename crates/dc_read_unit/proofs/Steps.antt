@@ -1,23 +1,26 @@
 -- What stands in parentheses or may be left away, as a step of its own.
-use Rattle.std.proofs.Common.{◌≡◌, ℕ, ◌+◌, Bool, true, false, if◌then◌else◌, List, [], ◌∷◌, drop, refl, sym, ap, ◌∙◌}
+use Rattle.std.proofs.Common.{◌≡◌, ℕ, ◌+◌, Bool, true, false, if◌then◌else◌, List, [], ◌∷◌, drop, refl, sym, ap, ◌∙◌, arith}
 use Rattle.dc_syntax.specs.declared.mark.Mark.TheVariants.{LeftParen, RightParen, Semicolon}
+use Rattle.dc_syntax.specs.declared.raw.Raw.{Raw}
+use Rattle.dc_syntax.specs.declared.unit.Part as code
+use Rattle.dc_syntax.specs.declared.unit.Part.TheViews.{rolls-NoStep, rolls-Step}
+use Rattle.dc_syntax.specs.declared.unit.Part.TheFolds.{fold-roll-Part}
+use Rattle.dc_syntax.specs.declared.unit.Part.TheOpen.{Part-F}
 use Rattle.dc_syntax.specs.Tokens.{Word, Token, Marked, is_word}
 use Rattle.dc_syntax.specs.Names.{Names}
 use Rattle.dc_syntax.specs.Trees.{Tree}
 use Rattle.dc_syntax.specs.Phrases.{begins_specs}
-use Rattle.dc_syntax.specs.Parts.{Part, NoStep, Step, Do, in_force_behind}
+use Rattle.dc_syntax.specs.Parts.{Part, NoStep, Step, Do, in_force_behind, height_of}
 use Rattle.dc_syntax.specs.Reading.{Out, Nothing, Found, Reads, Upto, next, begins, eat}
 use Rattle.dc_syntax.specs.ReadingUnits.{PartReads, StatementOf, FirstOf, tested, optional, branch, loop_clauses, ended, first, for_loop, for_condition, for_step, for_body}
-use Rattle.dc_read_expr.specs.View.{IsNext}
+use Rattle.dc_syntax.specs.UnitView.{part_view, part_step}
+use Rattle.dc_syntax.specs.View.{raw_view}
+use Rattle.dc_read_expr.specs.declared.read.Read.{Read}
+use Rattle.dc_read_expr.specs.View.{IsReading, IsNext}
+use Rattle.dc_read_expr.proofs.Eating.{eaten, uneaten, within_begins, eat_next}
+use Rattle.dc_read_unit.specs.declared.read.ReadPart.{ReadPart}
+use Rattle.dc_read_unit.specs.PartView.{IsPart}
 use Rattle.dc_read_unit.specs.StatementParts.{closed_tested, closed_optional, closed_first, branch_else, do_condition}
-
-eat_next : {A : Type 0} (w : Word) (ts : List Token) (c : A) (go : A → List Token → Out Part) → eat w ts (λ rest. go c rest) ≡ next (eat w ts (λ rest. Found c rest)) go
-eat_next w [] c go = refl
-eat_next w (t ∷ ts) c go = by (is_word w t.word)
-  where
-    by : (b : Bool) → (if b then go c ts else Nothing) ≡ next (if b then Found c ts else Nothing) go
-    by true = refl
-    by false = refl
 
 pub tested_next : (r : Reads) (env : Names) (ts : List Token) (go : Tree → List Token → Out Part) → tested r env ts go ≡ next (closed_tested r env ts) go
 tested_next r env [] go = refl
@@ -43,6 +46,49 @@ optional_next r env w ts go = by (begins w ts)
         ≡ next (if b then eat w ts (λ rest. Found NoStep rest) else next (r (Upto 16) env ts) (λ e rest. eat w rest (λ rest. Found (Step e) rest))) go
     by true = eat_next w ts NoStep go
     by false = read (r (Upto 16) env ts)
+
+abbrev by_mark : Reads → Names → Word → List Token → Bool → Out Part
+by_mark r env w ts b = if b then eat w ts (λ rest. Found NoStep rest) else next (r (Upto 16) env ts) (λ e rest. eat w rest (λ rest. Found (Step e) rest))
+
+part_view-NoStep : part_view code.NoStep ≡ NoStep
+part_view-NoStep = ap part_view (sym rolls-NoStep) ∙ fold-roll-Part Part part_step Part-F.NoStep
+
+part_view-Step : (e : Raw) → part_view (code.Step e) ≡ Step (raw_view e)
+part_view-Step e = ap part_view (sym (rolls-Step e)) ∙ fold-roll-Part Part part_step (Part-F.Step e)
+
+-- nothing before the mark
+pub left_away : (r : Reads) (env : Names) (w : Word) (tokens : List Token) (at limit : ℕ) (read : ReadPart) → begins w (drop at tokens) ≡ true → read.part ≡ code.NoStep → read.height ≡ 0 → read.at ≡ at + 1
+    → IsPart tokens at limit read (closed_optional r env w (drop at tokens))
+left_away r env w tokens at limit read is made high there = let viewed : part_view read.part ≡ NoStep = ap part_view made ∙ part_view-NoStep in record {
+  found = ap (by_mark r env w (drop at tokens)) is ∙ (eaten w tokens at (λ rest. Found NoStep rest) is
+      ∙ (ap (λ t. Found t (drop (at + 1) tokens)) (sym viewed) ∙ ap (λ k. Found (part_view read.part) (drop k tokens)) (sym there)));
+  high = high ∙ sym (ap height_of viewed);
+  short = omega (arith, high);
+  after = omega (arith, there);
+  within = omega (arith, there, within_begins w tokens at is);
+}
+
+pub no_step : (r : Reads) (env : Names) (w : Word) (ts : List Token) → begins w ts ≡ false → r (Upto 16) env ts ≡ Nothing → closed_optional r env w ts ≡ Nothing
+no_step r env w ts is none = ap (by_mark r env w ts) is ∙ ap (λ o. next o (λ e rest. eat w rest (λ rest. Found (Step e) rest))) none
+
+-- an expression, and what stands behind it
+module _ (r : Reads) (env : Names) (w : Word) (tokens : List Token) (at limit : ℕ) (e : Read) (is : begins w (drop at tokens) ≡ false) (q : IsReading tokens at limit e (r (Upto 16) env (drop at tokens))) where
+  behind_step : closed_optional r env w (drop at tokens) ≡ eat w (drop e.at tokens) (λ rest. Found (Step (raw_view e.tree)) rest)
+  behind_step = ap (by_mark r env w (drop at tokens)) is ∙ ap (λ o. next o (λ e rest. eat w rest (λ rest. Found (Step e) rest))) q.found
+
+  pub open_step : begins w (drop e.at tokens) ≡ false → closed_optional r env w (drop at tokens) ≡ Nothing
+  open_step unclosed = behind_step ∙ uneaten w (drop e.at tokens) (λ rest. Found (Step (raw_view e.tree)) rest) unclosed
+
+  pub closed_step : (read : ReadPart) → begins w (drop e.at tokens) ≡ true → read.part ≡ code.Step e.tree → read.height ≡ e.height → read.at ≡ e.at + 1
+      → IsPart tokens at limit read (closed_optional r env w (drop at tokens))
+  closed_step read closed made high there = let viewed : part_view read.part ≡ Step (raw_view e.tree) = ap part_view made ∙ part_view-Step e.tree in record {
+    found = behind_step ∙ (eaten w tokens e.at (λ rest. Found (Step (raw_view e.tree)) rest) closed
+        ∙ (ap (λ t. Found t (drop (e.at + 1) tokens)) (sym viewed) ∙ ap (λ k. Found (part_view read.part) (drop k tokens)) (sym there)));
+    high = high ∙ (q.high ∙ sym (ap height_of viewed));
+    short = omega (arith, high, q.short);
+    after = omega (arith, there, q.after);
+    within = omega (arith, there, within_begins w tokens e.at closed);
+  }
 
 pub branch_is : (r : Reads) (q : PartReads) (env : Names) (all ts : List Token) (e : Tree) (rest : List Token) (a : Part) (rest' : List Token) → closed_tested r env ts ≡ Found e rest → q StatementOf env rest ≡ Found a rest'
     → branch r q env all ts ≡ branch_else q env all e a rest'

@@ -1,5 +1,5 @@
 -- The lists of initializers, init-decls, items and external declarations.
-use Rattle.std.proofs.Common.{◌≡◌, ℕ, zero, suc, ◌+◌, ◌<◌, ◌≤◌, Bool, true, false, if◌then◌else◌, ◌&&◌, not, List, [], ◌∷◌, map, length, drop, refl, sym, ap, ◌∙◌, subst, arith, Ok}
+use Rattle.std.proofs.Common.{◌≡◌, ℕ, zero, suc, ◌+◌, ◌<◌, ◌≤◌, Bool, true, false, if◌then◌else◌, ◌&&◌, not, List, [], ◌∷◌, map, length, drop, refl, sym, ap, ◌∙◌, arith}
 use Rattle.dc_syntax.specs.declared.mark.Mark.TheVariants.{Comma, RightBrace}
 use Rattle.dc_syntax.specs.Tokens.{Token, Marked, is_word}
 use Rattle.dc_syntax.specs.Names.{Names}
@@ -11,7 +11,6 @@ use Rattle.dc_syntax.proofs.Words.{false-true}
 use Rattle.dc_read_expr.proofs.Eating.{eaten, uneaten, within_begins}
 use Rattle.dc_read_unit.specs.declared.read.ReadParts.{ReadParts}
 use Rattle.dc_read_unit.specs.PartView.{IsParts}
-use Rattle.dc_read_unit.specs.PartTaking.{DeclaringPart, IsDeclaredPart}
 use Rattle.dc_read_unit.specs.StatementParts.{item}
 use Rattle.dc_read_unit.proofs.Lists.{PartList, IsPartList, Walked, walked_open}
 
@@ -205,10 +204,3 @@ none_there [] zero le = refl
 none_there [] (suc at) le = refl
 none_there (t ∷ ts) zero le = absurd (omega (arith, le))
 none_there (t ∷ ts) (suc at) le = none_there ts at (omega (arith, le))
-
-pub part_declared : (tokens : List Token) (from limit : ℕ) (old new : ReadParts) (env' : Names) (behind : Part → Names) (b : Bool) (out : Out Part) → DeclaringPart tokens from limit old new env' behind (Ok b) out → b ≡ true
-    → IsDeclaredPart tokens from limit old new env' behind out
-part_declared tokens from limit old new env' behind b out q e = subst (λ b. DeclaringPart tokens from limit old new env' behind (Ok b) out) e q
-
-pub part_undeclared : (tokens : List Token) (from limit : ℕ) (old new : ReadParts) (env' : Names) (behind : Part → Names) (b : Bool) (out : Out Part) → DeclaringPart tokens from limit old new env' behind (Ok b) out → b ≡ false → out ≡ Nothing
-part_undeclared tokens from limit old new env' behind b out q e = subst (λ b. DeclaringPart tokens from limit old new env' behind (Ok b) out) e q

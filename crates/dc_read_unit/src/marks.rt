@@ -13,3 +13,13 @@ pub fn begins_colon(tokens: &[Token<'_>], at: usize) -> bool
 {
     matches!(word(tokens, at), Some(Word::Marked(Mark::Colon)))
 }
+
+/// Whether this mark stands at the place.
+pub fn begins_mark(tokens: &[Token<'_>], at: usize, mark: Mark) -> bool
+    ensures { result ≡ spec.begins (Marked mark) (drop at tokens.now) }
+{
+    match word(tokens, at) {
+        Some(Word::Marked(found)) => found == mark,
+        _ => false,
+    }
+}

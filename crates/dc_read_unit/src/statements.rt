@@ -1,6 +1,6 @@
 // Statements, and what stands in blocks (C11 6.8).
 ghost use Rattle.std.specs.Prelude.{◌≡◌, ◌<◌, ◌≤◌, ◌+◌, IfOk, length, drop, map};
-ghost use Rattle.dc_syntax.specs.declared.mark.Mark.TheVariants.{LeftBrace, RightParen, Semicolon};
+ghost use Rattle.dc_syntax.specs.declared.mark.Mark.TheVariants.{LeftBrace, Semicolon};
 ghost use Rattle.dc_syntax.specs.Parts as parts;
 ghost use Rattle.dc_syntax.specs.Parts.{height_of};
 ghost use Rattle.dc_syntax.specs.Reading as spec;
@@ -18,6 +18,7 @@ ghost use Rattle.dc_read_unit.specs.PartView.{Parting, PartsListing};
 
 use crate::clauses::Level;
 use crate::declarations::{read_declaration, read_first};
+use crate::marks::begins_mark;
 use crate::read::{ReadPart, ReadParts, push_part};
 use dc_read_expr::{Read, begins_specs, behind, closes_body, higher, place, read_upto, word};
 use dc_syntax::{Keyword, Mark, Part, Place, Token, Typedefs, Word};
@@ -314,61 +315,31 @@ impl<
         }))
     }
 
-    /// An expression of a `for` up to a semicolon and with it; it may be left away.
-    fn optional_semicolon(
+    /// An expression of a `for` up to a mark and with it; it may be left away.
+    fn step_up_to(
         &self,
+        mark: Mark,
         names: &Typedefs<'_>,
         at: usize,
     ) -> Result<Option<ReadPart>, AllocError>
         requires within { at ≤ length self.now.tokens.now }
         requires small { self.now.budget < 1000 }
-        ensures { Parting self.now.tokens.now at self.now.budget result (closed_optional (spec.reads self.now.budget) names.now.names (Marked Semicolon) (drop at self.now.tokens.now)) }
+        ensures { Parting self.now.tokens.now at self.now.budget result (closed_optional (spec.reads self.now.budget) names.now.names (Marked mark) (drop at self.now.tokens.now)) }
     {
-        if let Some(Word::Marked(Mark::Semicolon)) = word(self.tokens, at) {
+        if begins_mark(self.tokens, at, mark) {
             return Ok(Some(ReadPart {
                 part: Boxed::new(self.alloc, Part::NoStep)?,
                 height: 0,
-                at: at + 1,
+                at: behind(self.tokens, at),
             }));
         }
         let Some(read) = read_upto(self.alloc, self.tokens, names, self.budget, 16, at)? else {
             return Ok(None);
         };
-        let Some(Word::Marked(Mark::Semicolon)) = word(self.tokens, read.at) else {
+        if !begins_mark(self.tokens, read.at, mark) {
             return Ok(None);
-        };
-        let end = read.at + 1;
-        Ok(Some(ReadPart {
-            part: Boxed::new(self.alloc, Part::Step(read.tree))?,
-            height: read.height,
-            at: end,
-        }))
-    }
-
-    /// The last expression of a `for` up to the closing parenthesis and with it; it may be left away.
-    fn optional_paren(
-        &self,
-        names: &Typedefs<'_>,
-        at: usize,
-    ) -> Result<Option<ReadPart>, AllocError>
-        requires within { at ≤ length self.now.tokens.now }
-        requires small { self.now.budget < 1000 }
-        ensures { Parting self.now.tokens.now at self.now.budget result (closed_optional (spec.reads self.now.budget) names.now.names (Marked RightParen) (drop at self.now.tokens.now)) }
-    {
-        if let Some(Word::Marked(Mark::RightParen)) = word(self.tokens, at) {
-            return Ok(Some(ReadPart {
-                part: Boxed::new(self.alloc, Part::NoStep)?,
-                height: 0,
-                at: at + 1,
-            }));
         }
-        let Some(read) = read_upto(self.alloc, self.tokens, names, self.budget, 16, at)? else {
-            return Ok(None);
-        };
-        let Some(Word::Marked(Mark::RightParen)) = word(self.tokens, read.at) else {
-            return Ok(None);
-        };
-        let end = read.at + 1;
+        let end = behind(self.tokens, read.at);
         Ok(Some(ReadPart {
             part: Boxed::new(self.alloc, Part::Step(read.tree))?,
             height: read.height,
@@ -383,7 +354,7 @@ impl<
         ensures { Parting self.now.tokens.now at self.now.budget result (closed_first (spec.reads self.now.budget) (units.reads_part self.now.budget) names.now.names (drop at self.now.tokens.now)) }
     {
         if !begins_specs(self.tokens, names, at) {
-            return self.optional_semicolon(names, at);
+            return self.step_up_to(Mark::Semicolon, names, at);
         }
         let Some(first) = read_first(self.alloc, self.tokens, names, self.budget, at)? else {
             return Ok(None);
@@ -432,10 +403,10 @@ impl<
         requires low { first.height ≤ self.now.budget }
         ensures { Parting self.now.tokens.now at (self.now.budget + 1) result (units.for_condition (spec.reads self.now.budget) (units.reads_part self.now.budget) names.now.names (drop at self.now.tokens.now) (part_view first.part) (drop first.at self.now.tokens.now)) }
     {
-        let Some(test) = self.optional_semicolon(names, first.at)? else {
+        let Some(test) = self.step_up_to(Mark::Semicolon, names, first.at)? else {
             return Ok(None);
         };
-        let Some(step) = self.optional_paren(names, test.at)? else {
+        let Some(step) = self.step_up_to(Mark::RightParen, names, test.at)? else {
             return Ok(None);
         };
         self.for_body(names, at, first, test, step)

@@ -13,7 +13,10 @@ use std::alloc::Global;
 const GREATEST_HEIGHT: u64 = 128;
 
 /// The unit (C11 6.9) of height at most 128 that these tokens spell, with the typedefs of the skipped headers in force
-/// before it. `NoReading` where they spell none.
+/// before it.
+///
+/// The error is `NoReading` exactly where they spell none, if memory doesn't run out first.
+/// It is `Memory` where there is no memory for the unit or for what is in force, and nothing of the unit is left then.
 pub fn read_unit(alloc: Global, tokens: &[Token<'_>]) -> Result<Unit, Syntax>
     ensures read { IfOk result (λ u. SpellsLow tokens.now (unit_view u)) }
     ensures none { IfErr result (λ e. e ≡ NoReading → (u : Part) → SpellsLow tokens.now u → ⊥) }

@@ -8,6 +8,8 @@ mod heights;
 #[cfg(test)]
 mod reading;
 #[cfg(test)]
+mod rows;
+#[cfg(test)]
 mod statements;
 #[cfg(test)]
 mod written;

@@ -6,12 +6,12 @@ use dc_read_unit::read_unit;
 use dc_syntax::grammar_tokens;
 use std::alloc::{AllocError, Global};
 
-/// The parts of a unit, `none` where the tokens spell none, or the lexer's refusal.
+/// The parts of a unit, `none` where the tokens spell none, or where the lexer stops, as `byte 0`.
 pub fn read(alloc: Global, source: &[u8]) -> Result<Vec<u8>, AllocError> {
     let tokens = match lex(alloc, source) {
         Ok(tokens) => tokens,
         Err(Lex::Memory(error)) => return Err(error),
-        Err(_) => return Vec::from_slice(alloc, b"no tokens"),
+        Err(refusal) => return Vec::from_slice(alloc, refusal.to_string(alloc)?.as_bytes()),
     };
     let tokens = grammar_tokens(alloc, &tokens)?;
     match read_unit(alloc, tokens.as_slice()) {

@@ -182,5 +182,5 @@ fn a_unit_is_cut_behind_each_byte(rt: HostRuntime) -> Result<(), Fail> {
 
 // Was no unit read, or had the text no tokens?
 fn refused(answer: &[u8]) -> bool {
-    answer == b"none".as_slice() || answer == b"no tokens".as_slice()
+    !answer.starts_with(b"[")
 }

@@ -14,3 +14,4 @@ pub mod Declaring
 pub mod InForce
 pub mod Views
 pub mod Numbered
+pub mod Heights

@@ -10,5 +10,7 @@ pub mod ReadingUnits
 pub mod WordView
 pub mod View
 pub mod UnitView
+pub mod Heights
 pub mod Scopes
+pub mod Kinds
 pub mod Lexed

@@ -2,7 +2,9 @@
 #![tactic(auto)]
 
 mod declare;
+mod duplicate;
 mod entry;
+mod how_high;
 mod in_force;
 mod key;
 mod keyword;
@@ -16,6 +18,7 @@ mod typedefs;
 mod unit;
 
 pub use declare::declare_specs;
+pub use how_high::height;
 pub use in_force::{
     declare_function, declare_within_function, first_typedefs, has_tag, is_typedef,
 };

@@ -58,7 +58,7 @@ fn declarators(alloc: Global) -> Result<Items<Part>, AllocError> {
 }
 
 // `typedef int T;`
-fn declaration(alloc: Global) -> Result<Boxed<Part>, AllocError> {
+pub fn declaration(alloc: Global) -> Result<Boxed<Part>, AllocError> {
     let specs = typedef_int(alloc)?;
     let declarators = declarators(alloc)?;
     Boxed::new(alloc, Part::Declaration(specs, declarators, place()))
@@ -92,7 +92,7 @@ fn parameters(alloc: Global) -> Result<Items<Raw>, AllocError> {
 }
 
 // `f(int (*T)[1])`
-fn function(alloc: Global) -> Result<Boxed<Raw>, AllocError> {
+pub fn function(alloc: Global) -> Result<Boxed<Raw>, AllocError> {
     let named = Boxed::new(alloc, Raw::DeclaredName(name(alloc, b"f")?, place()))?;
     Boxed::new(alloc, Raw::Function(named, parameters(alloc)?, place()))
 }

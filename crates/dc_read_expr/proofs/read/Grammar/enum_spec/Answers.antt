@@ -1,9 +1,9 @@
-use Rattle.std.proofs.Common.{false, drop, sym, ap, ◌∙◌, refl, rules, arith}
+use Rattle.std.proofs.Common.{false, drop, sym, ap, ◌∙◌, refl, rules}
 use Rattle.dc_syntax.specs.declared.token.Word.TheVariants as word
 use Rattle.dc_syntax.specs.Trees.{EnumTag}
 use Rattle.dc_syntax.specs.Reading as spec
 use Rattle.dc_syntax.specs.View.{raw_view}
-use Rattle.dc_read_expr.proofs.Tags.{enum_tagged, tagged_bare, tagged_low, tagged_by, tagged_by_name, alone_reading, reading_by, next_of, tagged_unnamed, unnamed_end, raw_view-EnumTag}
+use Rattle.dc_read_expr.proofs.Tags.{enum_tagged, tagged_bare, tagged_low, tagged_by, tag_reading, reading_by, next_of, tagged_unnamed, unnamed_end, raw_view-EnumTag}
 use Rattle.dc_read_expr.proofs.read.Grammar.enum_spec.Goals as goal
 use Rattle.dc_read_expr.proofs.read.Grammar.enum_spec.Goals.{in_default-via-in-Some+in_default, in_default-via-in_default}
 
@@ -61,10 +61,7 @@ returns g c =
     let r = spec.reads f.budget in
     let env = c.args.names.now.names in
     let ts = f.tokens.now in
-    let all = drop c.args.at ts in
-    let n = next_of ts c.behind-next.result c.word.result (word.Named c.in-Some-Named.name) c.word.ensures (cc) in
-    alone_reading EnumTag ts c.args.at c.behind-end.result f.budget c.in-Some-Named.name.now c.in_ok-name.name c.place-2.result
-    _ _
-    (enum_tagged r f.budget env false ts c.args.at c.behind-next.result c.requires.begins c.behind-next.ensures
-    ∙ tagged_by_name f.budget all (spec.enum_body r env all) EnumTag ts c.behind-next.result c.behind-end.result c.in-Some-Named.name.now n c.if-self-lt1.false c.behind-end.ensures (sym c.opens_body-2.ensures ∙ c.if-opens_body-2.false))
-    c.in_ok-name.ensures (ap raw_view c.in_ok-new.ensures ∙ raw_view-EnumTag _ _) refl c.place-2.ensures c.if-self-lt1.false (omega (arith, c.behind-end.ensures, c.behind-next.ensures)) (omega (arith, c.behind-end.ensures, n.within)) refl refl
+    tag_reading (spec.enum_body r env (drop c.args.at ts)) EnumTag ts c.args.at c.behind-next.result c.behind-end.result f.budget c.in-Some-Named.name.now c.in_ok-name.name c.place-2.result _ _
+    (enum_tagged r f.budget env false ts c.args.at c.behind-next.result c.requires.begins c.behind-next.ensures) c.behind-next.ensures
+    (next_of ts c.behind-next.result c.word.result (word.Named c.in-Some-Named.name) c.word.ensures (cc)) c.behind-end.ensures (sym c.opens_body-2.ensures ∙ c.if-opens_body-2.false)
+    c.in_ok-name.ensures (ap raw_view c.in_ok-new.ensures ∙ raw_view-EnumTag _ _) refl c.place-2.ensures c.if-self-lt1.false refl refl

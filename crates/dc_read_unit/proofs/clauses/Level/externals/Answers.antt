@@ -1,7 +1,8 @@
 use Rattle.std.proofs.Common.{drop, refl}
 use Rattle.dc_syntax.specs.Parts as parts
 use Rattle.dc_syntax.specs.ReadingUnits as units
-use Rattle.dc_read_unit.proofs.UnitLists.{externals_list, externals_listed, some_there, none_there, part_declared, part_undeclared}
+use Rattle.dc_read_unit.proofs.Answered.{part_declared, part_undeclared}
+use Rattle.dc_read_unit.proofs.UnitLists.{externals_list, externals_listed, some_there, none_there}
 use Rattle.dc_read_unit.proofs.Lists.{walked_starts, walked_more, walked_none, walked_ends}
 use Rattle.dc_read_unit.proofs.clauses.Level.externals.Goals as goal
 

@@ -5,7 +5,8 @@ use Rattle.dc_syntax.specs.Parts as parts
 use Rattle.dc_syntax.specs.Reading as spec
 use Rattle.dc_syntax.specs.ReadingUnits as units
 use Rattle.dc_read_expr.proofs.Eating.{within_begins}
-use Rattle.dc_read_unit.proofs.UnitLists.{declared_list, declared_listed, part_declared, part_undeclared}
+use Rattle.dc_read_unit.proofs.Answered.{part_declared, part_undeclared}
+use Rattle.dc_read_unit.proofs.UnitLists.{declared_list, declared_listed}
 use Rattle.dc_read_unit.proofs.Lists.{walked_starts, walked_more, walked_none, walked_ends}
 use Rattle.dc_read_unit.proofs.clauses.Level.more_declarators.Goals as goal
 

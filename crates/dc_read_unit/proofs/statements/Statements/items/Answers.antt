@@ -5,7 +5,8 @@ use Rattle.dc_syntax.specs.Parts as parts
 use Rattle.dc_syntax.specs.ReadingUnits as units
 use Rattle.dc_read_expr.proofs.Eating.{within_begins}
 use Rattle.dc_read_unit.specs.StatementParts.{item}
-use Rattle.dc_read_unit.proofs.UnitLists.{items_list, items_listed, items_none, items_closed, part_declared, part_undeclared}
+use Rattle.dc_read_unit.proofs.Answered.{part_declared, part_undeclared}
+use Rattle.dc_read_unit.proofs.UnitLists.{items_list, items_listed, items_none, items_closed}
 use Rattle.dc_read_unit.proofs.Lists.{walked_starts, walked_more, walked_ends}
 use Rattle.dc_read_unit.proofs.statements.Statements.items.Goals as goal
 
