@@ -1,5 +1,3 @@
-pub mod Words
-pub mod Reserved
 pub mod Assertion
 pub mod Number
 pub mod Program

@@ -4,8 +4,8 @@ use Rattle.std.specs.Prelude.{if◌then◌else◌, codes, flat_map, ◌||◌}
 use Rattle.std.specs.List.{position, AllByRecursion}
 use Rattle.dc_core.specs.Program.{Expr, Stmt, Assign, Return}
 use Rattle.dc_form.specs.Form.{is_name, AreNew, Source, Assignment, IsLvalue, IsSum, IsAssignment, IsReturn, expr_tokens, assignment_tokens, return_tokens, numbered, returned}
-use Rattle.dc_core.specs.Words.{same}
-use Rattle.dc_core.specs.Reserved.{reserved}
+use Rattle.dc_text.specs.Words.{same}
+use Rattle.dc_text.specs.Reserved.{reserved}
 use Rattle.dc_form.specs.Read.Cursor.{front, tail}
 use Rattle.dc_form.specs.Read.Reading.{got, given, then_read, behind}
 use Rattle.dc_form.specs.Read.Expressions.{read_sum}

@@ -5,7 +5,7 @@ use Rattle.std.specs.List.{position, AllByRecursion}
 use Rattle.std.proofs.lemmas.Bool.Decides.{nat_tests}
 use Rattle.dc_core.specs.Program.{Expr, Variable, Contract}
 use Rattle.dc_form.specs.Form.{AreNew, name_at, Source, Clause, Requires, Ensures, Assigns, IsTest, IsClause, expr_tokens, listed, clause_tokens, required, ensured, assigned}
-use Rattle.dc_core.specs.Words.{same}
+use Rattle.dc_text.specs.Words.{same}
 use Rattle.dc_form.specs.Read.Cursor.{front, tail}
 use Rattle.dc_form.specs.Read.Reading.{Reading, got, then_read, behind}
 use Rattle.dc_form.specs.Read.Expressions.{read_test}

@@ -4,8 +4,8 @@ use Rattle.std.specs.Prelude.{not, nat_le, ◌↔◌}
 use Rattle.std.specs.List.{list_all}
 use Rattle.std.specs.Fmt.{decimal}
 use Rattle.std.proofs.lemmas.Bool.Decides.{nat_tests}
-use Rattle.dc_core.specs.Words.{is_digit, is_letter, is_word_part}
-use Rattle.dc_core.specs.Reserved.{is_reserved}
+use Rattle.dc_text.specs.Words.{is_digit, is_letter, is_word_part}
+use Rattle.dc_text.specs.Reserved.{is_reserved}
 use Rattle.dc_text.proofs.Decimals.{reads_exactly}
 use Rattle.dc_text.proofs.Spellings.{decimal_some, decimal_digits}
 use Rattle.dc_text.specs.Digits.{number_of as decimal_of}

@@ -8,7 +8,7 @@ use Rattle.dc_core.specs.declared.number.BinOp.{BinOp}
 use Rattle.dc_core.specs.declared.number.BinOp.TheVariants.{Add, Sub, Lt, Le, Eq, Ne}
 use Rattle.dc_core.specs.Program.{Expr, Literal, Variable, Parameter, ReturnValue, Binary}
 use Rattle.dc_form.specs.Form.{AreNew, name_at, Source, IsTerm, IsSum, IsTest, IsLvalue, is_sum_operator, expr_tokens, operator_token}
-use Rattle.dc_core.specs.Words.{same}
+use Rattle.dc_text.specs.Words.{same}
 use Rattle.dc_form.specs.Read.Cursor.{front, tail}
 use Rattle.dc_form.specs.Read.Numbers.{number_of}
 use Rattle.dc_form.specs.Read.Reading.{Reading, got, given, then_read, behind}

@@ -3,7 +3,7 @@ use Rattle.std.proofs.Common.{◌≡◌, ℕ, ◌≤◌, ◌<◌, Bool, true, fa
 use Rattle.std.specs.Prelude.{if◌then◌else◌, codes, flat_map, nat_lt}
 use Rattle.std.proofs.lemmas.Bool.Decides.{nat_tests}
 use Rattle.dc_form.specs.Form.{is_new, AreNew, static_tokens, result_token, listed, params_tokens}
-use Rattle.dc_core.specs.Words.{same}
+use Rattle.dc_text.specs.Words.{same}
 use Rattle.dc_form.specs.Read.Cursor.{front, tail}
 use Rattle.dc_form.specs.Read.Reading.{Reading, got, then_read, behind}
 use Rattle.dc_form.specs.Read.Signature.{Head, head, result_of, with_result, read_head, read_each, read_params, read_list}

@@ -4,7 +4,7 @@ use Rattle.std.specs.Prelude.{if◌then◌else◌, ◌==◌}
 use Rattle.std.specs.List.{list_all}
 use Rattle.std.proofs.lemmas.Bool.Decides.{nat_tests}
 use Rattle.dc_form.specs.Form.{is_blank, is_mark, takes_equals, goes_on, EndsWord, IsTokenBefore, Spells}
-use Rattle.dc_core.specs.Words.{is_word_part}
+use Rattle.dc_text.specs.Words.{is_word_part}
 use Rattle.dc_form.specs.Read.Tokens.{after_blanks, word_len, token_len, split_at, token_front}
 
 choose_true : {A : Type 0} (b : Bool) (x y : A) → b ≡ true → (if b then x else y) ≡ x

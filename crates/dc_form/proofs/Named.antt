@@ -5,7 +5,7 @@ use Rattle.std.specs.List.{list_any, position, position_or_len}
 use Rattle.std.proofs.lemmas.Bool.Decides.{nat_tests}
 use Rattle.std.specs.Cmp.Lexicographic.{bytes_decides}
 use Rattle.dc_form.specs.Form.{is_name, is_new, AreNew, name_at}
-use Rattle.dc_core.specs.Words.{same}
+use Rattle.dc_text.specs.Words.{same}
 
 pub equal_bytes : (xs ys : List ℕ) → same xs ys ≡ true → xs ≡ ys
 equal_bytes xs ys h = (bytes_decides xs ys).0 h

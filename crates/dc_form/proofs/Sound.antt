@@ -8,7 +8,7 @@ use Rattle.std.proofs.lemmas.List.Elements.{All-nil, All-cons, All-head, All-tai
 use Rattle.dc_core.specs.Program.{Expr, Literal, Variable, Parameter, ReturnValue, Binary, Assign, Return, Program}
 use Rattle.dc_core.specs.Sound.{Stands, IsLvalue as LvalueStands, IsTarget, StmtStands, IsSound}
 use Rattle.dc_form.specs.Form.{is_name, is_new, AreNew, Source, Clause, Requires, Ensures, Assigns, Assignment, IsTerm, IsSum, IsTest, IsClause, IsLvalue, IsAssignment, IsReturn, IsFormed, IsForm, required, ensured, assigned, numbered, returned, program_of}
-use Rattle.dc_core.specs.Words.{is_letter, is_word}
+use Rattle.dc_text.specs.Words.{is_letter, is_word}
 
 first_is_true : (a b : Bool) → (a && b) ≡ true → a ≡ true
 first_is_true true b e = refl

@@ -5,7 +5,7 @@ use Rattle.std.proofs.lemmas.Bool.Decides.{nat_tests}
 use Rattle.std.specs.Prelude.{IsErrOf, Ok, Err}
 use Rattle.dc_core.specs.Program.{Expr, Contract, Stmt}
 use Rattle.dc_form.specs.Form.{is_new}
-use Rattle.dc_core.specs.Words.{same}
+use Rattle.dc_text.specs.Words.{same}
 use Rattle.dc_form.specs.Read.Cursor.{front, tail}
 use Rattle.dc_form.specs.Read.Reading.{Reading, got}
 use Rattle.dc_form.specs.Read.Clauses.{target_of, with_target, read_targets, read_clause, read_clauses}

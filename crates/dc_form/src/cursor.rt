@@ -1,6 +1,6 @@
 // Tokens, read one after another.
 ghost use Rattle.std.specs.Prelude.{◌≡◌, ◌≤◌, ◌∷◌, length, [], if◌then◌else◌, OnOk, IsErrOf, MatchOption, IsTrue, true, false, ◌↔◌};
-ghost use Rattle.dc_core.specs.Words.{same};
+ghost use Rattle.dc_text.specs.Words.{same};
 ghost use Rattle.dc_form.specs.Read.Cursor.{front as front_of, tail as tail_of};
 ghost use Rattle.dc_form.specs.declared.reader.Form.TheVariants.{NoForm};
 

@@ -2,12 +2,12 @@
 ghost use Rattle.std.specs.Prelude.{◌≡◌, ◌≤◌, ◌++◌, [], ◌∷◌, ℕ, List, length, IfOk, IsErrOf, OnOk};
 ghost use Rattle.std.specs.Option.{option_map};
 ghost use Rattle.dc_form.specs.Form.{is_blank, is_mark, takes_equals, goes_on, Spells};
-ghost use Rattle.dc_core.specs.Words.{is_word_part, is_letter, is_digit};
+ghost use Rattle.dc_text.specs.Words.{is_word_part, is_letter, is_digit};
 ghost use Rattle.dc_form.specs.Read.Tokens.{after_blanks, word_len as len_of_word, token_len as len_of_token, token_front};
 ghost use Rattle.dc_form.specs.declared.reader.Form.TheVariants.{NoForm};
 
 use crate::reader::Form;
-use dc_core::is_word_byte;
+use dc_text::is_word_byte;
 use std::alloc::{AllocError, Global};
 use std::marker::Model;
 

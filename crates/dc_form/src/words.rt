@@ -2,7 +2,7 @@
 ghost use Rattle.std.specs.Prelude.{◌≡◌};
 ghost use Rattle.dc_form.specs.Form.{is_name};
 
-use dc_core::{is_formed, is_reserved_word};
+use dc_text::{is_formed, is_reserved_word};
 
 /// Whether the bytes may be declared as a name: formed as one, and not reserved.
 pub fn is_name_word(bytes: &[u8]) -> bool

@@ -5,7 +5,7 @@ use Rattle.std.specs.List.{list_all}
 use Rattle.std.specs.Fmt.{decimal}
 use Rattle.std.proofs.lemmas.Fmt.{decimal_digit, decimal_step_wide, decimal_by_steps_wide}
 use Rattle.std.proofs.lemmas.Bool.Decides.{nat_tests}
-use Rattle.dc_core.specs.Words.{is_digit}
+use Rattle.dc_text.specs.Words.{is_digit}
 use Rattle.dc_goto.specs.Reading.{is_plain, number_from, decimal_of, ends_word}
 
 abbrev value_from : ℕ → List ℕ → ℕ

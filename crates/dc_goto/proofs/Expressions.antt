@@ -7,7 +7,7 @@ use Rattle.dc_core.specs.declared.number.BinOp.TheVariants.{Add, Sub, Lt, Le, Eq
 use Rattle.dc_core.specs.declared.number.NumKind.{NumKind}
 use Rattle.dc_core.specs.declared.number.NumKind.TheVariants.{S32, U64}
 use Rattle.dc_core.specs.Term.{Term, Constant, Register, Object, Load, Binary}
-use Rattle.dc_core.specs.Words.{same}
+use Rattle.dc_text.specs.Words.{same}
 use Rattle.dc_goto.specs.Text.{kind_word, operator_word, number_word, spaced, term_word}
 use Rattle.dc_goto.specs.Lines.{IsNumber, IsConstant, HasNumbers, height, height_limit, IsTerm}
 use Rattle.dc_goto.specs.Reading.{Reading, got, then_read, behind_byte, front_word, behind_word, read_word, read_one, read_two, read_three, constant_of, kind_of, operator_of, read_number, read_kind, read_constant, read_leaf, read_operated, read_opened, closed, read_parenthesised, read_term, read_low}

@@ -9,7 +9,7 @@ use Rattle.dc_core.specs.declared.number.BinOp.{BinOp}
 use Rattle.dc_core.specs.declared.number.BinOp.TheVariants.{Add, Sub, Lt, Le, Eq, Ne}
 use Rattle.dc_core.specs.declared.number.NumKind.{NumKind}
 use Rattle.dc_core.specs.declared.number.NumKind.TheVariants.{S32, U64}
-use Rattle.dc_core.specs.Words.{same, is_digit, is_word, is_word_part}
+use Rattle.dc_text.specs.Words.{same, is_digit, is_word, is_word_part}
 use Rattle.dc_goto.specs.Text.{kind_word, operator_word, number_word, register_word, result_word}
 use Rattle.dc_goto.specs.Lines.{IsNumber, IsConstant, IsOptionalNumber, is_check_part, is_check_name, is_body_name}
 use Rattle.dc_goto.specs.Reading.{decimal_of, number_of, negative, constant_of, word_that, literal, kind_of, result_of, operator_of, register_of}

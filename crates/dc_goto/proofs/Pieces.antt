@@ -4,7 +4,7 @@ use Rattle.std.specs.Prelude.{if◌then◌else◌, not, ◌==◌, codes}
 use Rattle.std.specs.List.{list_all, AllByRecursion}
 use Rattle.std.proofs.lemmas.Bool.Decides.{nat_tests}
 use Rattle.std.specs.Cmp.Lexicographic.{bytes_decides}
-use Rattle.dc_core.specs.Words.{same}
+use Rattle.dc_text.specs.Words.{same}
 use Rattle.dc_goto.specs.Text.{spaced}
 use Rattle.dc_goto.specs.Reading.{Reading, got, then_read, behind_byte, spaced_read, begins_with, ends_word, word_len, front_word, behind_word, given, read_word, read_one, read_two, read_three, read_four, read_many, read_all, read_list}
 use Rattle.dc_goto.proofs.Digits.{and_true}

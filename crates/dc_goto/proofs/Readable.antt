@@ -3,7 +3,7 @@ use Rattle.std.proofs.Common.{◌≡◌, ◌≢◌, ℕ, zero, suc, ◌+◌, ◌
 use Rattle.std.specs.Prelude.{if◌then◌else◌, codes, flat_map}
 use Rattle.std.specs.List.{AllByRecursion}
 use Rattle.dc_core.specs.declared.number.NumKind.{NumKind}
-use Rattle.dc_core.specs.Words.{same, is_word}
+use Rattle.dc_text.specs.Words.{same, is_word}
 use Rattle.dc_core.specs.Term.{Term}
 use Rattle.dc_goto.specs.Program.{Instr, Set, Store, Init, LocalZero, Covers, Call, Return, Trap, Statics, OutsideObjects, Draw, Seen, Require, Push, Range, Check, Pop}
 use Rattle.dc_goto.specs.Text.{kind_word, result_word, register_word, spaced, term_word, instr_line}

@@ -2,7 +2,7 @@
 use Rattle.std.specs.Prelude.{◌≡◌, ◌≢◌, ℕ, suc, ◌^◌, ◌<◌, ◌≤◌, max, ℤ, pos, negsuc, Bool, true, false, ◌&&◌, ◌||◌, ◌==◌, List, [], ◌∷◌, ◌++◌, length, map, flat_map, codes, Option, None, Some}
 use Rattle.std.specs.List.{list_all, AllByRecursion}
 use Rattle.dc_core.specs.Term.{Term, Constant, Register, Object, Load, Binary}
-use Rattle.dc_core.specs.Words.{same, is_word, is_word_part}
+use Rattle.dc_text.specs.Words.{same, is_word, is_word_part}
 use Rattle.dc_goto.specs.Program.{Instr, Set, Store, Init, LocalZero, Covers, Call, Return, Trap, Statics, OutsideObjects, Draw, Seen, Require, Push, Range, Check, Pop, Sig, StaticVar, Body, GotoProgram}
 use Rattle.dc_goto.specs.Text.{sig_line, static_line, body_lines, instr_line, line_bytes}
 

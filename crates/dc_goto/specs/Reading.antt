@@ -6,7 +6,7 @@ use Rattle.dc_core.specs.declared.number.BinOp.TheVariants.{Add, Sub, Lt, Le, Eq
 use Rattle.dc_core.specs.declared.number.NumKind.{NumKind}
 use Rattle.dc_core.specs.declared.number.NumKind.TheVariants.{S32, U64}
 use Rattle.dc_core.specs.Term.{Term, Constant, Register, Object, Load, Binary}
-use Rattle.dc_core.specs.Words.{same, is_digit, is_word}
+use Rattle.dc_text.specs.Words.{same, is_digit, is_word}
 use Rattle.dc_goto.specs.Program.{Instr, Set, Store, Init, LocalZero, Covers, Call, Return, Trap, Statics, OutsideObjects, Draw, Seen, Require, Push, Range, Check, Pop}
 use Rattle.dc_goto.specs.Lines.{Line, Version, Function, Static, Opening, Instruction, End, height_limit, is_check_name, is_body_name}
 

@@ -1,7 +1,7 @@
 -- Programs whose goto programs can be written as texts: their names are words that differ, and no number is too large.
 use Rattle.std.specs.Prelude.{◌≡◌, ℕ, suc, ◌^◌, ◌<◌, ◌≤◌, max, true, false, List, [], ◌∷◌, ◌++◌, length}
 use Rattle.std.specs.List.{list_any, AllByRecursion}
-use Rattle.dc_core.specs.Words.{same, is_word}
+use Rattle.dc_text.specs.Words.{same, is_word}
 use Rattle.dc_core.specs.Program.{Expr, Literal, Variable, Parameter, ReturnValue, Binary, Stmt, Assign, Return, Program}
 
 -- 1, and one more than the greatest height of the parts

@@ -6,7 +6,7 @@ use Rattle.std.specs.Cmp.Lexicographic.{bytes_decides}
 use Rattle.std.proofs.lemmas.Bool.{or_cases, eqb-true, ne_eqb}
 use Rattle.std.proofs.lemmas.Bool.Decides.{nat_tests}
 use Rattle.std.proofs.lemmas.List.{drop_at}
-use Rattle.dc_core.specs.Words.{is_digit}
+use Rattle.dc_text.specs.Words.{is_digit}
 use Rattle.dc_lexer.specs.Pieces.{is_blank, AreBlanks, headers, IsLineMarker, IsInclude}
 use Rattle.dc_lexer.specs.Reading.{is_in_line, mark_len, len_behind, blanks_and, hash_and, marker_len, begins, header_len, named_len, include_len}
 use Rattle.dc_lexer.proofs.Longest.{Front, Measures}

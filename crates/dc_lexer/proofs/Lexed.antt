@@ -5,7 +5,7 @@ use Rattle.std.specs.List.{list_all}
 use Rattle.std.proofs.lemmas.Bool.{and_parts, and_from, false≢true}
 use Rattle.std.proofs.lemmas.Bool.Decides.{nat_tests}
 use Rattle.std.proofs.lemmas.List.Sums.{sum_by-append}
-use Rattle.dc_core.specs.Words.{is_digit, is_letter, is_word_part}
+use Rattle.dc_text.specs.Words.{is_digit, is_letter, is_word_part}
 use Rattle.dc_lexer.specs.Words.{punctuators, suffixes, escapes, is_plain_character, IsOfKind, IsToken, is_octal_digit, is_hexadecimal_digit, is_hexadecimal_mark}
 use Rattle.dc_lexer.specs.Pieces.{is_newline, newlines}
 use Rattle.dc_lexer.specs.Reading.{is_in_line, kind_of, len_of, front_kind, token_len}

@@ -3,7 +3,7 @@ use Rattle.std.proofs.Common.{◌≡◌, ℕ, ◌≤◌, ◌<◌, Bool, true, fa
 use Rattle.std.specs.Prelude.{◌==◌, nat_eq}
 use Rattle.std.specs.List.{list_all, list_any, Contains}
 use Rattle.std.proofs.lemmas.Bool.{and_parts, or_cases, eqb-true, false≢true}
-use Rattle.dc_core.specs.Words.{same}
+use Rattle.dc_text.specs.Words.{same}
 use Rattle.dc_lexer.specs.Words.{punctuators}
 use Rattle.dc_lexer.specs.Reading.{is_among, singles, before_equals, twice, is_single, is_pair, is_triple, begins_pair, begins_triple, punctuator_len}
 use Rattle.dc_lexer.proofs.Longest.{Front, Measures}

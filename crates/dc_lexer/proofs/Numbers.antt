@@ -4,7 +4,7 @@ use Rattle.std.specs.Prelude.{◌==◌, nat_le}
 use Rattle.std.specs.List.{list_all, prefix_len}
 use Rattle.std.proofs.lemmas.Bool.{and_parts, and_from, eqb-true, false≢true}
 use Rattle.std.proofs.lemmas.Bool.Decides.{nat_tests}
-use Rattle.dc_core.specs.Words.{is_digit}
+use Rattle.dc_text.specs.Words.{is_digit}
 use Rattle.dc_lexer.specs.Words.{is_octal_digit, is_hexadecimal_digit, is_hexadecimal_mark, value_behind, HasValue}
 use Rattle.dc_lexer.specs.Reading.{zero_len, digits_len, zero_value, digits_value}
 use Rattle.dc_lexer.proofs.Longest.{Front}

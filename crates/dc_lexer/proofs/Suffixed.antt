@@ -5,7 +5,7 @@ use Rattle.std.specs.List.{list_any, Contains}
 use Rattle.std.specs.Cmp.Lexicographic.{bytes_decides}
 use Rattle.std.proofs.lemmas.Bool.{and_parts, or_cases, eqb-true, false≢true}
 use Rattle.std.proofs.lemmas.Map.Views.{Contains-from_any}
-use Rattle.dc_core.specs.Words.{same}
+use Rattle.dc_text.specs.Words.{same}
 use Rattle.dc_lexer.specs.Words.{suffixes, is_hexadecimal_digit, is_hexadecimal_mark}
 use Rattle.dc_lexer.specs.Reading.{is_unsigned_mark, is_long_mark, again_len, long_len, unsigned_len, long_rest_len, suffix_len}
 use Rattle.dc_lexer.proofs.Longest.{Front}

@@ -2,7 +2,7 @@
 use Rattle.std.proofs.Common.{◌≡◌, ℕ, suc, ◌+◌, ◌≤◌, ◌<◌, Bool, true, false, cond, List, [], ◌∷◌, ◌++◌, length, refl, sym, ap, subst, arith}
 use Rattle.std.specs.List.{list_all, prefix_len}
 use Rattle.std.proofs.lemmas.Bool.{and_parts, and_from, false≢true}
-use Rattle.dc_core.specs.Words.{is_word, is_word_part, is_letter}
+use Rattle.dc_text.specs.Words.{is_word, is_word_part, is_letter}
 use Rattle.dc_lexer.specs.Reading.{word_len}
 use Rattle.dc_lexer.proofs.Longest.{Front, Measures}
 use Rattle.dc_lexer.proofs.Spans.{span_front, span_reaches}

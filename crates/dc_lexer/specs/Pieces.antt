@@ -1,7 +1,7 @@
 -- The tokens of a source: its bytes are cut in pieces, and each piece is chosen among all prefixes of what is left.
 use Rattle.std.specs.Prelude.{◌≡◌, ◌≢◌, ℕ, suc, ◌+◌, ◌<◌, ◌≤◌, ◌^◌, ◌⊎◌, Bool, true, ◌||◌, ◌==◌, List, [], ◌∷◌, ◌++◌, length, flat_map, codes, Contains, count_by}
 use Rattle.std.specs.List.{list_all}
-use Rattle.dc_core.specs.Words.{is_digit}
+use Rattle.dc_text.specs.Words.{is_digit}
 use Rattle.dc_lexer.specs.Words.{IsOfKind, IsToken, IsInteger}
 use Rattle.dc_lexer.specs.declared.kind.Kind.{Kind}
 use Rattle.dc_lexer.specs.declared.kind.Kind.TheVariants.{Word, Integer, Character, Punctuator}

@@ -2,7 +2,7 @@
 use Rattle.std.specs.Prelude.{ℕ, ◌+◌, ◌^◌, ◌≤◌, Bool, false, ◌&&◌, ◌||◌, not, ◌==◌, nat_eq, List, [], ◌∷◌, take, drop, codes, if◌then◌else◌, Option, None, Some}
 use Rattle.std.specs.List.{list_any, prefix_len, starts_with}
 use Rattle.std.specs.Option.{option_map}
-use Rattle.dc_core.specs.Words.{is_digit, is_letter, is_word_part}
+use Rattle.dc_text.specs.Words.{is_digit, is_letter, is_word_part}
 use Rattle.dc_lexer.specs.Words.{is_octal_digit, is_hexadecimal_digit, is_hexadecimal_mark, is_plain_character, value_behind}
 use Rattle.dc_lexer.specs.Pieces.{is_blank, is_newline}
 use Rattle.dc_lexer.specs.declared.kind.Kind.{Kind}

@@ -1,7 +1,7 @@
 -- The words of a source, each taken alone (C11 6.4.1 to 6.4.6).
 use Rattle.std.specs.Prelude.{◌≡◌, ℕ, ◌+◌, ◌*◌, ◌-◌, ◌⊎◌, Bool, true, false, ◌&&◌, ◌||◌, not, ◌==◌, nat_le, List, [], ◌∷◌, ◌++◌, codes, Contains, if◌then◌else◌}
 use Rattle.std.specs.List.{list_all}
-use Rattle.dc_core.specs.Words.{is_digit, is_word}
+use Rattle.dc_text.specs.Words.{is_digit, is_word}
 use Rattle.dc_lexer.specs.declared.kind.Kind.{Kind}
 use Rattle.dc_lexer.specs.declared.kind.Kind.TheVariants.{Word, Integer, Character, Punctuator}
 

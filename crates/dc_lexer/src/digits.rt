@@ -1,7 +1,7 @@
 // The digits of integers.
 ghost use Rattle.std.specs.Prelude.{◌≡◌, ◌≤◌, length};
 ghost use Rattle.std.specs.List.{prefix_len};
-ghost use Rattle.dc_core.specs.Words.{is_digit as digit};
+ghost use Rattle.dc_text.specs.Words.{is_digit as digit};
 ghost use Rattle.dc_lexer.specs.Words.{is_hexadecimal_digit as hexadecimal_digit, is_hexadecimal_mark as hexadecimal_mark, is_octal_digit as octal_digit};
 ghost use Rattle.dc_lexer.specs.Reading.{digits_len as len_of_digits, zero_len as len_behind_zero};
 

@@ -10,7 +10,7 @@ use crate::punctuators::punctuator_len;
 use crate::separators::begins_comment;
 use crate::widths::is_wide_integer;
 use crate::words::word_len;
-use dc_core::is_letter_byte;
+use dc_text::is_letter_byte;
 
 // The kind of the tokens that begin with the byte.
 fn kind_of(b: u8) -> Kind

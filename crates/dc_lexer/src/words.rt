@@ -1,10 +1,10 @@
 // Words, each alone.
 ghost use Rattle.std.specs.Prelude.{◌≡◌, ◌≤◌, length};
 ghost use Rattle.std.specs.List.{prefix_len};
-ghost use Rattle.dc_core.specs.Words.{is_word_part};
+ghost use Rattle.dc_text.specs.Words.{is_word_part};
 ghost use Rattle.dc_lexer.specs.Reading.{word_len as len_of_word};
 
-use dc_core::{is_letter_byte, is_word_byte};
+use dc_text::{is_letter_byte, is_word_byte};
 
 // How many letters, digits and `_` stand in front.
 fn parts_len(bytes: &[u8]) -> usize

@@ -3,7 +3,7 @@ use Rattle.std.proofs.Common.{◌≡◌, ℕ, zero, suc, ◌+◌, Bool, true, fa
 use Rattle.std.specs.Prelude.{if◌then◌else◌, not, ◌||◌, flat_map, slice_get, nat_lt}
 use Rattle.std.specs.List.{list_any}
 use Rattle.std.proofs.lemmas.Grind.{flat_map-append}
-use Rattle.dc_core.specs.Words.{same}
+use Rattle.dc_text.specs.Words.{same}
 use Rattle.dc_goto.specs.Program.{Sig}
 use Rattle.dc_goto.specs.Lines.{BodyHead, Line, Version, Function, Static, Opening, Instruction, End}
 use Rattle.dc_goto.specs.Shape.{function_in, name_in, head_in, functions_in, names_in, heads_in, last, first, may_follow, may_name, is_size, names_limit, keeps, is_whole, first_broken, first_misshapen}

@@ -3,7 +3,7 @@ use Rattle.std.proofs.Common.{◌≡◌, ℕ, suc, ◌+◌, ◌≤◌, Bool, tru
 use Rattle.std.specs.Prelude.{nat_lt, not}
 use Rattle.std.specs.List.{list_any, position, position_or_len}
 use Rattle.std.proofs.lemmas.Bool.Decides.{nat_tests}
-use Rattle.dc_core.specs.Words.{same}
+use Rattle.dc_text.specs.Words.{same}
 use Rattle.dc_goto.specs.Program as plain
 use Rattle.dc_goto.specs.Shape.{place_of}
 use Rattle.dc_goto.specs.View.{sig_view}

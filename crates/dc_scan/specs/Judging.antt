@@ -1,7 +1,7 @@
 -- The rules for a line, by what stands in the lines before it.
 use Rattle.std.specs.Prelude.{◌≡◌, ℕ, Bool, true, false, ◌&&◌, ◌||◌, List, length, map, Option, Some}
 use Rattle.std.specs.List.{list_any}
-use Rattle.dc_core.specs.Words.{same}
+use Rattle.dc_text.specs.Words.{same}
 use Rattle.dc_goto.specs.Program.{Sig}
 use Rattle.dc_goto.specs.Lines.{BodyHead, Line, Version, Function, Static, Opening, Instruction, End}
 use Rattle.dc_goto.specs.Shape.{may_follow, may_name, is_size, may_open, may_act_in, leaves, goes_on, is_end, is_start}

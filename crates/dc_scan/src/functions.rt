@@ -2,7 +2,7 @@
 ghost use Rattle.std.specs.Prelude.{◌≡◌, ◌++◌, [], ◌∷◌, length, map, OnOk, false};
 ghost use Rattle.std.specs.List.{list_any};
 ghost use Rattle.std.specs.Option.{option_map};
-ghost use Rattle.dc_core.specs.Words.{same};
+ghost use Rattle.dc_text.specs.Words.{same};
 ghost use Rattle.dc_goto.specs.Shape.{place_of, sig_of};
 ghost use Rattle.dc_goto.specs.View.{sig_view};
 

@@ -1,7 +1,7 @@
 // Instructions of a text.
 ghost use Rattle.std.specs.Prelude.{◌≡◌, IfOk, IsErrOf, None, Some, map, length, []};
 ghost use Rattle.dc_core.specs.View.{term_view};
-ghost use Rattle.dc_core.specs.Words.{is_word};
+ghost use Rattle.dc_text.specs.Words.{is_word};
 ghost use Rattle.dc_goto.specs.Lines.{is_check_name};
 ghost use Rattle.dc_goto.specs.Program as plain;
 ghost use Rattle.dc_goto.specs.Reading.{got, read_control as control_read, read_four, read_instr as instr_read, read_list, read_local as local_read, read_low, read_many, read_mark as mark_read, read_name, read_number, read_kind, read_objects as objects_read, read_one, read_return as return_read, read_three, read_two, read_word, register_of};

@@ -1,6 +1,6 @@
 // Lines of a text.
 ghost use Rattle.std.specs.Prelude.{◌≡◌, ◌++◌, ◌∷◌, ℕ, IfOk, IsErrOf, OnOk, None, codes, length, map, []};
-ghost use Rattle.dc_core.specs.Words.{is_word};
+ghost use Rattle.dc_text.specs.Words.{is_word};
 ghost use Rattle.dc_goto.specs.Lines.{AreLines, FirstFormless, Instruction, Version, is_body_name};
 ghost use Rattle.dc_goto.specs.Reading.{function_line, got, literal, opening_line, read_form as form_read, read_instr as instr_read, read_kind, read_line as line_read, read_list, read_many, read_name, read_number, read_one, read_three, read_two, read_word, result_of, static_line_of, then_read};
 ghost use Rattle.dc_scan.specs.View.{line_view};

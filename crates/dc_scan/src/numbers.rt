@@ -1,6 +1,6 @@
 // Numbers in decimal.
 ghost use Rattle.std.specs.Prelude.{◌≡◌, ◌≤◌, ◌^◌, IfSome, Some};
-ghost use Rattle.dc_core.specs.Words.{is_digit as digit};
+ghost use Rattle.dc_text.specs.Words.{is_digit as digit};
 ghost use Rattle.dc_goto.specs.Reading.{constant_of as constant_in, decimal_of as decimal_in, is_plain as plain, negative as negated, number_from as number_behind, number_of as number_in};
 
 // Whether the byte is a decimal digit.

@@ -1,7 +1,7 @@
 // What words mean.
 ghost use Rattle.std.specs.Prelude.{◌≡◌, IfOk, IsErrOf, None, true, codes};
 ghost use Rattle.std.specs.List.{list_all};
-ghost use Rattle.dc_core.specs.Words.{is_word};
+ghost use Rattle.dc_text.specs.Words.{is_word};
 ghost use Rattle.dc_goto.specs.Lines.{is_body_name as body_name, is_check_name as check_name, is_check_part as check_part};
 ghost use Rattle.dc_goto.specs.Reading.{got, kind_of as kind_in, literal, operator_of as operator_in, read_kind, read_name, read_number, read_word, register_of as register_in, result_of as result_in, spaced_read};
 ghost use Rattle.dc_scan.specs.declared.form.Form.TheVariants.{NoForm};
@@ -9,7 +9,8 @@ ghost use Rattle.dc_scan.specs.declared.form.Form.TheVariants.{NoForm};
 use crate::cursor::Cursor;
 use crate::form::Form;
 use crate::numbers::number_of;
-use dc_core::{BinOp, Name, NumKind, is_formed, is_word_byte};
+use dc_core::{BinOp, Name, NumKind};
+use dc_text::{is_formed, is_word_byte};
 use std::alloc::Global;
 
 /// The kind of the word.

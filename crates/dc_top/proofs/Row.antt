@@ -3,7 +3,7 @@ use Rattle.std.proofs.Common.{◌≡◌, ℕ, zero, suc, ◌<◌, ◌≤◌, ◌
 use Rattle.std.specs.Prelude.{codes, Some}
 use Rattle.std.specs.Fmt.{decimal}
 use Rattle.std.specs.Cmp.Lexicographic.{bytes_decides}
-use Rattle.dc_core.specs.Words.{same, is_word}
+use Rattle.dc_text.specs.Words.{same, is_word}
 use Rattle.dc_text.proofs.Spellings.{decimal_same}
 use Rattle.dc_top.specs.Row.{asked_by, IsModeOf}
 use Rattle.dc_top.specs.declared.table.Mode.{Mode}

@@ -3,7 +3,7 @@ use Rattle.std.proofs.Common.{◌≡◌, ℕ, suc, ◌+◌, ◌≤◌, ◌<◌, 
 use Rattle.std.specs.Prelude.{flat_map, not, ◌||◌}
 use Rattle.std.specs.List.{list_any, AllByRecursion}
 use Rattle.dc_core.specs.Program.{Expr, Literal, Variable, Parameter, ReturnValue, Binary, Program}
-use Rattle.dc_core.specs.Words.{same, is_word}
+use Rattle.dc_text.specs.Words.{same, is_word}
 use Rattle.dc_form.specs.Form.{is_name, is_new, AreNew, Source, Clause, Requires, Ensures, Assigns, Assignment, IsTerm, IsSum, IsTest, IsClause, IsAssignment, IsReturn, IsFormed, Spells, IsForm, required, ensured, numbered, returned, program_of, tokens_of}
 use Rattle.dc_form.proofs.Claused.{all_to}
 use Rattle.dc_goto.proofs.Digits.{and_true}

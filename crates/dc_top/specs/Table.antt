@@ -2,7 +2,7 @@
 use Rattle.std.specs.Prelude.{◌≡◌, ℕ, ◌<◌, ◌^◌, ◌⊎◌, true, List, [], ◌∷◌, codes, Option, None, Some, IfSome}
 use Rattle.std.specs.Fmt.{decimal}
 use Rattle.std.specs.Option.{option_map}
-use Rattle.dc_core.specs.Words.{is_word}
+use Rattle.dc_text.specs.Words.{is_word}
 use Rattle.dc_outside.specs.Shelf.{Files, named_file}
 
 -- what is run: the program of a text; or the program of a source, judged by the contract of this function as it runs, or

@@ -3,8 +3,8 @@ ghost use Rattle.std.specs.Prelude.{◌≡◌, length, IfNone, IfSome};
 ghost use Rattle.dc_top.specs.Row.{IsModeOf, command_at};
 ghost use Rattle.dc_top.specs.Table.{HasRow, IsRow};
 
-use dc_core::{Name, is_formed};
-use dc_text::read_decimal;
+use dc_core::Name;
+use dc_text::{is_formed, read_decimal};
 
 /// How the program of a source is run.
 #[derive(Clone, Copy, Debug, PartialEq, Eq)]

@@ -2,7 +2,7 @@
 use Rattle.std.specs.Prelude.{ℕ, zero, suc, Bool, true, false, ◌||◌, List, [], ◌∷◌, ◌++◌, Option, None, Some, if◌then◌else◌, codes}
 use Rattle.std.specs.List.{position}
 use Rattle.dc_core.specs.Program.{Expr, Stmt, Assign, Return}
-use Rattle.dc_core.specs.Words.{same}
+use Rattle.dc_text.specs.Words.{same}
 use Rattle.dc_form.specs.Read.Cursor.{front}
 use Rattle.dc_form.specs.Read.Expressions.{place_at, read_sum}
 use Rattle.dc_form.specs.Read.Reading.{Reading, got, given, then_read, behind}

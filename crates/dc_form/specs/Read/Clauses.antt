@@ -2,7 +2,7 @@
 use Rattle.std.specs.Prelude.{ℕ, zero, suc, Bool, false, nat_lt, List, [], ◌∷◌, ◌++◌, Option, None, Some, if◌then◌else◌, codes}
 use Rattle.std.specs.List.{position}
 use Rattle.dc_core.specs.Program.{Expr, Variable, Contract}
-use Rattle.dc_core.specs.Words.{same}
+use Rattle.dc_text.specs.Words.{same}
 use Rattle.dc_form.specs.Read.Cursor.{front, tail}
 use Rattle.dc_form.specs.Read.Expressions.{read_test}
 use Rattle.dc_form.specs.Read.Reading.{Reading, got, then_read, behind}

@@ -4,7 +4,7 @@ use Rattle.std.specs.List.{position}
 use Rattle.dc_core.specs.declared.number.BinOp.{BinOp}
 use Rattle.dc_core.specs.declared.number.BinOp.TheVariants.{Add, Sub, Lt, Le, Eq, Ne}
 use Rattle.dc_core.specs.Program.{Expr, Literal, Variable, Parameter, ReturnValue, Binary}
-use Rattle.dc_core.specs.Words.{same}
+use Rattle.dc_text.specs.Words.{same}
 use Rattle.dc_form.specs.Read.Cursor.{front, tail}
 use Rattle.dc_form.specs.Read.Numbers.{number_of}
 use Rattle.dc_form.specs.Read.Reading.{Reading, got, given, then_read}

@@ -1,6 +1,6 @@
 -- Readings: what is read in front of tokens, and the tokens behind it.
 use Rattle.std.specs.Prelude.{ℕ, List, Option, None, Some, if◌then◌else◌}
-use Rattle.dc_core.specs.Words.{same}
+use Rattle.dc_text.specs.Words.{same}
 use Rattle.dc_form.specs.Read.Cursor.{front, tail}
 
 abbrev pub Reading : Type 0 → Type 0

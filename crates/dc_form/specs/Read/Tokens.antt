@@ -1,7 +1,7 @@
 -- The token in front of bytes.
 use Rattle.std.specs.Prelude.{ℕ, ◌==◌, List, [], ◌∷◌, ◌+◌, take, drop, Option, None, Some, if◌then◌else◌}
 use Rattle.dc_form.specs.Form.{is_blank, is_mark, goes_on}
-use Rattle.dc_core.specs.Words.{is_word_part}
+use Rattle.dc_text.specs.Words.{is_word_part}
 
 -- what stands behind the blanks
 abbrev pub after_blanks : List ℕ → List ℕ

@@ -11,7 +11,7 @@ use Rattle.dc_core.specs.Program.{Expr, Stmt, Assign, Function, Program}
 use Rattle.dc_core.specs.Program as program
 use Rattle.dc_core.specs.Sound.{Stands, IsTarget, StmtStands, IsSound}
 use Rattle.dc_core.specs.Term.{Term, Constant, Register}
-use Rattle.dc_core.specs.Words.{same, is_word}
+use Rattle.dc_text.specs.Words.{same, is_word}
 use Rattle.dc_goto.specs.Lines.{BodyHead, head_of, IsTerm, IsInstr}
 use Rattle.dc_goto.specs.Program.{Instr, Set, Store, Init, LocalZero, Covers, Call, Return, Trap, Statics, OutsideObjects, Draw, Seen, Require, Push, Range, Check, Pop, Sig}
 use Rattle.dc_goto.specs.Shape as shape

@@ -3,7 +3,7 @@ use Rattle.std.proofs.Common.{◌≡◌, ℕ, suc, ◌+◌, ◌≤◌, ◌<◌, 
 use Rattle.std.specs.Prelude.{map, flat_map, not, nat_lt, ◌||◌, if◌then◌else◌}
 use Rattle.std.specs.List.{list_any}
 use Rattle.std.proofs.lemmas.Grind.{flat_map-append}
-use Rattle.dc_core.specs.Words.{same}
+use Rattle.dc_text.specs.Words.{same}
 use Rattle.dc_goto.specs.Lines.{BodyHead, Line, Version, Function, Static, Opening, Instruction, End, head_of, forms_of_body}
 use Rattle.dc_goto.specs.Program.{Instr, Sig, StaticVar, Body}
 use Rattle.dc_goto.specs.Shape.{functions_in, function_in, names_in, name_in, heads_in, head_in, last, first, may_follow, names_limit, may_name, is_size, may_open, may_act_in, leaves, goes_on, may_say, keeps, is_end, is_start, first_broken}

@@ -7,7 +7,7 @@ use Rattle.std.specs.List.{list_all}
 use Rattle.std.proofs.lemmas.Fmt.{decimal_by_steps_wide}
 use Rattle.std.proofs.lemmas.Bool.Decides.{nat_tests}
 use Rattle.dc_core.specs.Assertion.{assigns_name, postcondition_name}
-use Rattle.dc_core.specs.Words.{same, is_word, is_word_part, is_letter}
+use Rattle.dc_text.specs.Words.{same, is_word, is_word_part, is_letter}
 use Rattle.dc_goto.specs.Lines.{is_check_name, is_check_part}
 use Rattle.dc_goto.specs.Program.{Sig}
 use Rattle.dc_goto.specs.Shape.{place_of, sig_of}

@@ -5,7 +5,7 @@ use Rattle.std.specs.List.{AllByRecursion}
 use Rattle.std.proofs.lemmas.Bool.Decides.{nat_tests}
 use Rattle.dc_core.specs.Program.{Program}
 use Rattle.dc_core.specs.Sound.{IsSound}
-use Rattle.dc_core.specs.Words.{same, is_word}
+use Rattle.dc_text.specs.Words.{same, is_word}
 use Rattle.dc_goto.specs.Lines.{BodyHead, Function, Static, Opening, Instruction, End, IsForm, head_of, forms_of_body, forms_of}
 use Rattle.dc_goto.specs.Program.{Instr, Sig, Body}
 use Rattle.dc_goto.specs.Shape as shape

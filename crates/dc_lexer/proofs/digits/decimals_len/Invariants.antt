@@ -1,6 +1,6 @@
 use Rattle.std.proofs.Common.{◌≡◌, ◌≤◌, ◌+◌, length}
 use Rattle.std.specs.List.{prefix_len}
-use Rattle.dc_core.specs.Words.{is_digit}
+use Rattle.dc_text.specs.Words.{is_digit}
 use Rattle.dc_lexer.proofs.digits.decimals_len.Given as goal
 
 abbrev pub invariant-loop-rest : goal.invariant-loop-rest

@@ -1,5 +1,5 @@
 use Rattle.std.proofs.Common.{sym, ap, ◌∙◌}
-use Rattle.dc_core.specs.Words.{is_word}
+use Rattle.dc_text.specs.Words.{is_word}
 use Rattle.dc_top.proofs.Row.{instrument_found, text_found}
 use Rattle.dc_top.proofs.table.short_row.Goals as goal
 

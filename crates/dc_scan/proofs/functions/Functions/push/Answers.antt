@@ -1,6 +1,6 @@
 use Rattle.std.proofs.Common.{ap, ◌∙◌}
 use Rattle.std.specs.List.{list_any}
-use Rattle.dc_core.specs.Words.{same}
+use Rattle.dc_text.specs.Words.{same}
 use Rattle.dc_scan.proofs.Placed.{unknown}
 use Rattle.dc_scan.proofs.functions.Functions.push.Goals as goal
 

@@ -1,7 +1,7 @@
 // How a name is formed.
 ghost use Rattle.std.specs.Prelude.{◌≡◌};
 ghost use Rattle.std.specs.List.{list_all};
-ghost use Rattle.dc_core.specs.Words.{is_letter, is_word, is_word_part};
+ghost use Rattle.dc_text.specs.Words.{is_letter, is_word, is_word_part};
 
 /// Whether a name may begin with the byte: a letter or `_`.
 pub fn is_letter_byte(b: u8) -> bool

@@ -1,7 +1,7 @@
 -- The words that a source may not declare as names.
 use Rattle.std.specs.Prelude.{ℕ, Bool, ◌||◌, nat_eq, List, [], ◌∷◌, codes}
 use Rattle.std.specs.List.{list_any, starts_with}
-use Rattle.dc_core.specs.Words.{same}
+use Rattle.dc_text.specs.Words.{same}
 
 -- the keywords of C11, the predefined types and constants, and the built-in functions
 unfoldable pub reserved : List (List ℕ)

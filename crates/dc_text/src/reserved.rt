@@ -1,8 +1,8 @@
 // The words that a source may not declare as names.
 ghost use Rattle.std.specs.Prelude.{◌≡◌, ◌<◌, ℕ, length, map};
 ghost use Rattle.std.specs.List.{list_any};
-ghost use Rattle.dc_core.specs.Reserved.{is_reserved, reserved};
-ghost use Rattle.dc_core.specs.Words.{same};
+ghost use Rattle.dc_text.specs.Reserved.{is_reserved, reserved};
+ghost use Rattle.dc_text.specs.Words.{same};
 
 // The keywords of C11, the predefined types and constants, and the built-in functions.
 const RESERVED: [&str; 96] = [
