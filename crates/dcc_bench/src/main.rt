@@ -1,5 +1,8 @@
-// Times calls that no command reaches yet: `dcc_bench lex FILE`, `dcc_bench read_expr FILE` and `dcc_bench read_unit FILE`.
+// Times calls that no command reaches yet: `dcc_bench lex FILE`, `dcc_bench read_expr FILE`, `dcc_bench read_unit FILE` and
+// `dcc_bench memory COUNT`.
 #![tactic(auto)]
+
+mod memory;
 
 use dc_lexer::{Lex, Tokens, lex};
 use dc_read_expr::{Syntax, read_expr};
@@ -76,13 +79,18 @@ fn answer(alloc: Global, call: Call, bytes: &[u8]) -> Result<String, AllocError>
 fn main(rt: HostRuntime) -> Result<ExitCode, anyhow::Error> {
     let alloc = rt.alloc();
     let words: Vec<String> = env::args(&rt)?.collect(alloc)?;
-    let [_, word, path] = words.as_slice() else {
+    let [_, word, subject] = words.as_slice() else {
         return Ok(ExitCode::from(2));
     };
+    if word.as_str() == "memory" {
+        let line = memory::answer(alloc, subject.as_str().parse()?)?;
+        println!(rt; "{line}")?;
+        return Ok(ExitCode::from(0));
+    }
     let Some(call) = call_of(word.as_str()) else {
         return Ok(ExitCode::from(2));
     };
-    let bytes = fs::read(&rt, path.as_str())?;
+    let bytes = fs::read(&rt, subject.as_str())?;
     let line = answer(alloc, call, &bytes)?;
     println!(rt; "{line}")?;
     Ok(ExitCode::from(0))

@@ -1,0 +1,5 @@
+pub mod Puts
+pub mod Objects
+pub mod Spelt
+pub mod Decoded
+pub mod Written
