@@ -1,8 +1,8 @@
 -- Objects behind a memory, and what is loaded and stored there.
 use Rattle.std.proofs.Common.{◌≡◌, ℕ, suc, ◌^◌, ◌<◌, ◌≤◌, Bool, true, false, [], ◌∷◌, ◌++◌, length, Some, None, refl, ap, arith, ℤ}
 use Rattle.std.specs.Prelude.{replicate, if◌then◌else◌}
-use Rattle.dc_core.specs.declared.number.NumKind.TheVariants.{S32}
-use Rattle.dc_core.specs.Number.{converted}
+use Rattle.dc_num.specs.declared.kind.NumKind.TheVariants.{S32}
+use Rattle.dc_num.specs.Conversions.{converted}
 use Rattle.dc_core.specs.Memory.{Object, Memory, Stack, holding, start_of, object_of, offset_of, object_at, update, changed, put_at, with_bytes, holds_range, is_inside, encoded, load, store}
 use Rattle.dc_core.proofs.Numbers.{HasInt, IsValue-converted}
 
@@ -57,5 +57,5 @@ unfolding load
 HasInt-load pointer memory = by (is_inside memory pointer 4) _
   where
     by : (b : Bool) (z : ℤ) → HasInt (if b then Some (converted S32 z) else None)
-    by true z = IsValue-converted z
+    by true z = IsValue-converted S32 z
     by false z = tt

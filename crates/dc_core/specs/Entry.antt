@@ -1,6 +1,7 @@
 -- The memory and the arguments before anything of a program runs.
-use Rattle.std.specs.Prelude.{ℕ, zero, suc, ◌-◌, ℤ, List, [], ◌∷◌, ◌++◌, length, map}
-use Rattle.dc_core.specs.declared.number.NumKind.TheVariants.{S32}
+use Rattle.std.specs.Prelude.{ℕ, zero, suc, ◌-◌, ℤ, List, [], ◌∷◌, ◌++◌, length, map, replicate}
+use Rattle.dc_num.specs.declared.kind.NumKind.{NumKind}
+use Rattle.dc_num.specs.declared.kind.NumKind.TheVariants.{S32}
 use Rattle.dc_core.specs.Event.{Create}
 use Rattle.dc_core.specs.Choices.{Draws, ◌>>=◌, give, tell, draw, draw_bytes, draw_value}
 use Rattle.dc_core.specs.Memory.{ObjKind, Object, Memory, Static, Heap, Stack, dead, holding, function_object, object_limit, size_limit}
@@ -37,6 +38,21 @@ outside_objects number (suc n) =
 unfoldable pub with_outside : Memory → Draws Memory
 with_outside memory =
     draw (suc object_limit - length memory) >>= λ count. outside_objects (suc (length memory)) count >>= λ objects. give (memory ++ objects)
+
+-- arguments of these kinds
+abbrev pub draw_values : List NumKind → Draws (List ℤ)
+draw_values [] = give []
+draw_values (kind ∷ kinds) = draw_value kind >>= λ value. draw_values kinds >>= λ values. give (value ∷ values)
+
+-- what there is before anything of a program runs
+pub record Entered : Type 0 where
+  pub memory : Memory
+  pub arguments : List ℤ
+
+-- the entry of a program with so many functions, with variables of file scope of these sizes and parameters of these kinds
+abbrev pub entry : ℕ → List ℕ → List NumKind → Draws Entered
+entry functions sizes kinds =
+    static_objects sizes >>= λ statics. with_outside (replicate functions function_object ++ statics) >>= λ memory. draw_values kinds >>= λ arguments. give (record { memory = memory; arguments = arguments })
 
 -- the sizes of the variables of file scope
 abbrev pub static_sizes : Program → List ℕ

@@ -8,6 +8,7 @@ pub mod Memory
 pub mod Choices
 pub mod World
 pub mod Entry
+pub mod WellFormed
 pub mod Value
 pub mod Contract
 pub mod Sound

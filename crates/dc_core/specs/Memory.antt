@@ -1,7 +1,8 @@
 -- The memory: objects, numbered from 1 in the order of their creation. Bytes are little-endian.
 use Rattle.std.specs.Prelude.{ℕ, zero, suc, ◌+◌, ◌*◌, ◌/◌, ◌%◌, ◌^◌, Bool, true, false, ◌&&◌, nat_le, ℤ, pos, List, [], ◌∷◌, length, take, drop, Option, None, Some, slice_get, if◌then◌else◌}
-use Rattle.dc_core.specs.declared.number.NumKind.{NumKind}
-use Rattle.dc_core.specs.Number.{size_of, bits, converted}
+use Rattle.dc_num.specs.declared.kind.NumKind.{NumKind}
+use Rattle.dc_num.specs.Conversions.{bits, converted}
+use Rattle.dc_core.specs.Number.{size_of}
 
 pub data ObjKind : Type 0 where
   Function : ObjKind

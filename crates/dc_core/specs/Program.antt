@@ -1,6 +1,6 @@
 -- The typed program as plain data. Variables and parameters are named by their numbers, from 0.
 use Rattle.std.specs.Prelude.{ℕ, ℤ, Bool, List}
-use Rattle.dc_core.specs.declared.number.BinOp.{BinOp}
+use Rattle.dc_num.specs.declared.operators.BinOp.{BinOp}
 
 -- an expression of type int
 pub data Expr : Type 0 where

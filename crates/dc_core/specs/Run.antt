@@ -1,7 +1,7 @@
 -- The runs of a program: one recursion over statements serves the plain run, whose acts are noted, and the contract
 -- run, whose acts are judged.
 use Rattle.std.specs.Prelude.{ℕ, zero, suc, ◌-◌, ℤ, Bool, true, false, List, [], ◌∷◌, ◌++◌, length, map, flat_map, Option, None, Some, if◌then◌else◌}
-use Rattle.dc_core.specs.declared.number.NumKind.TheVariants.{S32}
+use Rattle.dc_num.specs.declared.kind.NumKind.TheVariants.{S32}
 use Rattle.dc_core.specs.Assertion.{postcondition_name}
 use Rattle.dc_core.specs.Event.{Event, End, Create, Check, Call, Return as CameBack, Write}
 use Rattle.dc_core.specs.Event as end

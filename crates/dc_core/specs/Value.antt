@@ -1,7 +1,7 @@
 -- The values and places of expressions (C11 6.5).
 use Rattle.std.specs.Prelude.{ℕ, suc, ℤ, List, Option, None, Some, slice_get}
-use Rattle.dc_core.specs.declared.number.NumKind.TheVariants.{S32}
-use Rattle.dc_core.specs.declared.number.BinOp.{BinOp}
+use Rattle.dc_num.specs.declared.kind.NumKind.TheVariants.{S32}
+use Rattle.dc_num.specs.declared.operators.BinOp.{BinOp}
 use Rattle.dc_core.specs.Number.{computed}
 use Rattle.dc_core.specs.Memory.{Memory, start_of, load}
 use Rattle.dc_core.specs.Program.{Expr, Literal, Variable, Parameter, ReturnValue, Binary}

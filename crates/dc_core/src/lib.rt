@@ -2,11 +2,10 @@
 #![tactic(auto)]
 
 pub mod laws;
-mod number;
 mod program;
 mod term;
 
+pub use dc_num::{BinOp, NumKind};
 pub use dc_text::Name;
-pub use number::{BinOp, NumKind};
 pub use program::{Contract, Expr, Function, Program, Stmt};
 pub use term::Term;

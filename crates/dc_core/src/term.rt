@@ -2,7 +2,7 @@
 use crate::{BinOp, NumKind};
 use sqlite_items::Boxed;
 
-/// An expression of the instruction text. An operator converts its operands to its kind.
+/// An expression of the instruction text. An operator converts its operands to its kind, but not the count of a shift.
 #[derive(Drop)]
 pub enum Term {
     Constant(NumKind, i128),

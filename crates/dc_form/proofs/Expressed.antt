@@ -4,10 +4,10 @@ use Rattle.std.specs.Prelude.{if◌then◌else◌, nat_lt, ◌==◌, slice_get, 
 use Rattle.std.specs.List.{position}
 use Rattle.std.specs.Fmt.{decimal}
 use Rattle.std.proofs.lemmas.Bool.Decides.{nat_tests}
-use Rattle.dc_core.specs.declared.number.BinOp.{BinOp}
-use Rattle.dc_core.specs.declared.number.BinOp.TheVariants.{Add, Sub, Lt, Le, Eq, Ne}
+use Rattle.dc_num.specs.declared.operators.BinOp.{BinOp}
+use Rattle.dc_num.specs.declared.operators.BinOp.TheVariants.{Add, Sub, Lt, Le, Eq, Ne}
 use Rattle.dc_core.specs.Program.{Expr, Literal, Variable, Parameter, ReturnValue, Binary}
-use Rattle.dc_form.specs.Form.{AreNew, name_at, Source, IsTerm, IsSum, IsTest, IsLvalue, is_sum_operator, expr_tokens, operator_token}
+use Rattle.dc_form.specs.Form.{AreNew, name_at, Source, IsTerm, IsSum, IsTest, IsLvalue, is_sum_operator, is_test_operator, expr_tokens, operator_token}
 use Rattle.dc_text.specs.Words.{same}
 use Rattle.dc_form.specs.Read.Cursor.{front, tail}
 use Rattle.dc_form.specs.Read.Numbers.{number_of}
@@ -230,31 +230,31 @@ term_sum s valued ReturnValue h = h
 term_sum s valued (Binary op a b) h = absurd h
 
 -- an operator in front of tokens
-pub record Operated (tokens : List (List ℕ)) (op : BinOp) (summed : Bool) : Type 0 where
-  pub kind : is_sum_operator op ≡ summed
+pub record Operated (tokens : List (List ℕ)) (op : BinOp) (may : BinOp → Bool) : Type 0 where
+  pub kind : may op ≡ true
   pub token : tokens ≡ operator_token op ∷ tail tokens
 
 some_operator : (a b : BinOp) → Some a ≡ Some b → a ≡ b
 some_operator a b h = cc
 
-sum_operated : (tokens : List (List ℕ)) (op : BinOp) → sum_operator (front tokens) ≡ Some op → Operated tokens op true
+sum_operated : (tokens : List (List ℕ)) (op : BinOp) → sum_operator (front tokens) ≡ Some op → Operated tokens op is_sum_operator
 sum_operated [] op h = cc
 sum_operated (word ∷ tokens) op h = by_tests (same word (codes "+")) refl (same word (codes "-")) refl h
   where
-    by_tests : (t : Bool) → same word (codes "+") ≡ t → (u : Bool) → same word (codes "-") ≡ u → (if t then Some Add else if u then Some Sub else None) ≡ Some op → Operated (word ∷ tokens) op true
-    by_tests true a u b h = subst (λ op. Operated (word ∷ tokens) op true) (some_operator Add op h) (record { kind = refl; token = ap (λ w. w ∷ tokens) (equal_bytes word (codes "+") a) })
-    by_tests false a true b h = subst (λ op. Operated (word ∷ tokens) op true) (some_operator Sub op h) (record { kind = refl; token = ap (λ w. w ∷ tokens) (equal_bytes word (codes "-") b) })
+    by_tests : (t : Bool) → same word (codes "+") ≡ t → (u : Bool) → same word (codes "-") ≡ u → (if t then Some Add else if u then Some Sub else None) ≡ Some op → Operated (word ∷ tokens) op is_sum_operator
+    by_tests true a u b h = subst (λ op. Operated (word ∷ tokens) op is_sum_operator) (some_operator Add op h) (record { kind = refl; token = ap (λ w. w ∷ tokens) (equal_bytes word (codes "+") a) })
+    by_tests false a true b h = subst (λ op. Operated (word ∷ tokens) op is_sum_operator) (some_operator Sub op h) (record { kind = refl; token = ap (λ w. w ∷ tokens) (equal_bytes word (codes "-") b) })
     by_tests false a false b h = cc
 
-test_operated : (tokens : List (List ℕ)) (op : BinOp) → test_operator (front tokens) ≡ Some op → Operated tokens op false
+test_operated : (tokens : List (List ℕ)) (op : BinOp) → test_operator (front tokens) ≡ Some op → Operated tokens op is_test_operator
 test_operated [] op h = cc
 test_operated (word ∷ tokens) op h = by_tests (same word (codes "==")) refl (same word (codes "!=")) refl (same word (codes "<")) refl (same word (codes "<=")) refl h
   where
-    by_tests : (t : Bool) → same word (codes "==") ≡ t → (u : Bool) → same word (codes "!=") ≡ u → (v : Bool) → same word (codes "<") ≡ v → (w : Bool) → same word (codes "<=") ≡ w → (if t then Some Eq else if u then Some Ne else if v then Some Lt else if w then Some Le else None) ≡ Some op → Operated (word ∷ tokens) op false
-    by_tests true a u b v c w d h = subst (λ op. Operated (word ∷ tokens) op false) (some_operator Eq op h) (record { kind = refl; token = ap (λ w. w ∷ tokens) (equal_bytes word (codes "==") a) })
-    by_tests false a true b v c w d h = subst (λ op. Operated (word ∷ tokens) op false) (some_operator Ne op h) (record { kind = refl; token = ap (λ w. w ∷ tokens) (equal_bytes word (codes "!=") b) })
-    by_tests false a false b true c w d h = subst (λ op. Operated (word ∷ tokens) op false) (some_operator Lt op h) (record { kind = refl; token = ap (λ w. w ∷ tokens) (equal_bytes word (codes "<") c) })
-    by_tests false a false b false c true d h = subst (λ op. Operated (word ∷ tokens) op false) (some_operator Le op h) (record { kind = refl; token = ap (λ w. w ∷ tokens) (equal_bytes word (codes "<=") d) })
+    by_tests : (t : Bool) → same word (codes "==") ≡ t → (u : Bool) → same word (codes "!=") ≡ u → (v : Bool) → same word (codes "<") ≡ v → (w : Bool) → same word (codes "<=") ≡ w → (if t then Some Eq else if u then Some Ne else if v then Some Lt else if w then Some Le else None) ≡ Some op → Operated (word ∷ tokens) op is_test_operator
+    by_tests true a u b v c w d h = subst (λ op. Operated (word ∷ tokens) op is_test_operator) (some_operator Eq op h) (record { kind = refl; token = ap (λ w. w ∷ tokens) (equal_bytes word (codes "==") a) })
+    by_tests false a true b v c w d h = subst (λ op. Operated (word ∷ tokens) op is_test_operator) (some_operator Ne op h) (record { kind = refl; token = ap (λ w. w ∷ tokens) (equal_bytes word (codes "!=") b) })
+    by_tests false a false b true c w d h = subst (λ op. Operated (word ∷ tokens) op is_test_operator) (some_operator Lt op h) (record { kind = refl; token = ap (λ w. w ∷ tokens) (equal_bytes word (codes "<") c) })
+    by_tests false a false b false c true d h = subst (λ op. Operated (word ∷ tokens) op is_test_operator) (some_operator Le op h) (record { kind = refl; token = ap (λ w. w ∷ tokens) (equal_bytes word (codes "<=") d) })
     by_tests false a false b false c false d h = cc
 
 binary_tokens : (s : Source) (op : BinOp) (a b : Expr) (tokens middle rest : List (List ℕ)) → tokens ≡ expr_tokens s a ++ middle → middle ≡ operator_token op ∷ tail middle → tail middle ≡ expr_tokens s b ++ rest → tokens ≡ expr_tokens s (Binary op a b) ++ rest
@@ -282,18 +282,14 @@ sum_sound names n valued tokens rest e h s d =
 sum_operator_read : (op : BinOp) → is_sum_operator op ≡ true → sum_operator (operator_token op) ≡ Some op
 sum_operator_read Add h = refl
 sum_operator_read Sub h = refl
-sum_operator_read Lt h = cc
-sum_operator_read Le h = cc
-sum_operator_read Eq h = cc
-sum_operator_read Ne h = cc
+sum_operator_read op h = cc
 
-test_operator_read : (op : BinOp) → is_sum_operator op ≡ false → (test_operator (operator_token op) ≡ Some op) × (sum_operator (operator_token op) ≡ None)
-test_operator_read Add h = cc
-test_operator_read Sub h = cc
+test_operator_read : (op : BinOp) → is_test_operator op ≡ true → (test_operator (operator_token op) ≡ Some op) × (sum_operator (operator_token op) ≡ None)
 test_operator_read Lt h = (refl, refl)
 test_operator_read Le h = (refl, refl)
 test_operator_read Eq h = (refl, refl)
 test_operator_read Ne h = (refl, refl)
+test_operator_read op h = cc
 
 term_alone : (s : Source) (valued : Bool) → AreNew [] (s.statics ++ (s.name ∷ s.params)) → (e : Expr) → IsTerm s valued e → (rest : List (List ℕ)) → sum_operator (front rest) ≡ None → read_sum (s.statics ++ (s.name ∷ s.params)) (length s.statics) valued (expr_tokens s e ++ rest) ≡ got e rest
 term_alone s valued new e h rest stop =

@@ -1,17 +1,17 @@
 -- Expressions are read as they are spelt.
-use Rattle.std.proofs.Common.{◌≡◌, ℕ, zero, suc, ◌+◌, ◌-◌, ◌≤◌, ◌<◌, max, Bool, true, false, ◌&&◌, List, [], ◌∷◌, ◌++◌, Option, None, Some, refl, sym, ap, subst, ◌∙◌, arith, append_assoc}
-use Rattle.std.specs.Prelude.{if◌then◌else◌, codes, ℤ, pos, negsuc}
+use Rattle.std.proofs.Common.{◌≡◌, ℕ, zero, suc, ◌≤◌, max, List, [], ◌∷◌, ◌++◌, Option, None, Some, refl, sym, ap, subst, ◌∙◌, arith, append_assoc}
+use Rattle.std.specs.Prelude.{if◌then◌else◌, codes}
 use Rattle.std.specs.Fmt.{decimal}
-use Rattle.dc_core.specs.declared.number.BinOp.{BinOp}
-use Rattle.dc_core.specs.declared.number.BinOp.TheVariants.{Add, Sub, Lt, Le, Eq, Ne}
-use Rattle.dc_core.specs.declared.number.NumKind.{NumKind}
-use Rattle.dc_core.specs.declared.number.NumKind.TheVariants.{S32, U64}
+use Rattle.dc_num.specs.declared.operators.BinOp.{BinOp}
+use Rattle.dc_num.specs.declared.operators.BinOp.TheVariants.{Add, Sub, Mul, Div, Rem, Shl, Shr, And, Or, Xor, Lt, Le, Gt, Ge, Eq, Ne}
+use Rattle.dc_num.specs.declared.kind.NumKind.{NumKind}
+use Rattle.dc_num.specs.declared.kind.NumKind.TheVariants.{Bool as Truth, S8, U8, S16, U16, S32, U32, S64, U64, Ptr}
 use Rattle.dc_core.specs.Term.{Term, Constant, Register, Object, Load, Binary}
 use Rattle.dc_text.specs.Words.{same}
 use Rattle.dc_goto.specs.Text.{kind_word, operator_word, number_word, spaced, term_word}
 use Rattle.dc_goto.specs.Lines.{IsNumber, IsConstant, HasNumbers, height, height_limit, IsTerm}
-use Rattle.dc_goto.specs.Reading.{Reading, got, then_read, behind_byte, front_word, behind_word, read_word, read_one, read_two, read_three, constant_of, kind_of, operator_of, read_number, read_kind, read_constant, read_leaf, read_operated, read_opened, closed, read_parenthesised, read_term, read_low}
-use Rattle.dc_goto.proofs.Pieces.{Parts, then_parts, then_got, got_parts, Behind, behind_parts, by_word, Ends, word_whole, Reads, word_reads, one_complete, one_sound, two_complete, two_sound, three_complete, three_sound}
+use Rattle.dc_goto.specs.Reading.{Reading, got, behind_byte, front_word, behind_word, read_word, read_one, read_two, constant_of, kind_of, operator_of, read_number, read_kind, read_constant, read_leaf, read_operated, read_opened, closed, read_parenthesised, read_term, read_low}
+use Rattle.dc_goto.proofs.Pieces.{then_parts, got_parts, behind_parts, by_word, Ends, word_whole, Reads, word_reads, one_complete, one_sound, two_complete, two_sound, three_complete, three_sound}
 use Rattle.dc_goto.proofs.Meanings.{number_means, constant_means, IsAny, kind_means, operator_sound}
 
 pub number_reads : Reads read_number decimal IsNumber
@@ -98,8 +98,16 @@ opened_sound n again r word bytes rest t h =
     higher_load m n h = omega arith
 
 opened_complete : (n : ℕ) (again : List ℕ → Reading Term) → Reads again term_word (IsWithin n) → (t : Term) (rest : List ℕ) → IsWithin (suc n) t → Ends rest → read_opened again (front_word (inner t ++ rest)) (behind_word (inner t ++ rest)) ≡ got t rest
+opened_complete n again r (Constant Truth z) rest is e = one_complete constant_reads (Constant Truth) z rest is.0 e
+opened_complete n again r (Constant S8 z) rest is e = one_complete constant_reads (Constant S8) z rest is.0 e
+opened_complete n again r (Constant U8 z) rest is e = one_complete constant_reads (Constant U8) z rest is.0 e
+opened_complete n again r (Constant S16 z) rest is e = one_complete constant_reads (Constant S16) z rest is.0 e
+opened_complete n again r (Constant U16 z) rest is e = one_complete constant_reads (Constant U16) z rest is.0 e
 opened_complete n again r (Constant S32 z) rest is e = one_complete constant_reads (Constant S32) z rest is.0 e
+opened_complete n again r (Constant U32 z) rest is e = one_complete constant_reads (Constant U32) z rest is.0 e
+opened_complete n again r (Constant S64 z) rest is e = one_complete constant_reads (Constant S64) z rest is.0 e
 opened_complete n again r (Constant U64 z) rest is e = one_complete constant_reads (Constant U64) z rest is.0 e
+opened_complete n again r (Constant Ptr z) rest is e = one_complete constant_reads (Constant Ptr) z rest is.0 e
 opened_complete n again r (Register m) rest is e = one_complete number_reads Register m rest is.0 e
 opened_complete n again r (Object m) rest is e = one_complete number_reads Object m rest is.0 e
 opened_complete n again r (Load kind a) rest is e = two_complete kind_reads r Load kind a rest tt (is.0, lower (height a) n is.1) e
@@ -108,8 +116,18 @@ opened_complete n again r (Load kind a) rest is e = two_complete kind_reads r Lo
     lower m n h = omega arith
 opened_complete n again r (Binary Add kind a b) rest is e = three_complete kind_reads r r (Binary Add) kind a b rest tt (is.0.0, lower_left (height a) (height b) n is.1) (is.0.1, lower_right (height a) (height b) n is.1) e
 opened_complete n again r (Binary Sub kind a b) rest is e = three_complete kind_reads r r (Binary Sub) kind a b rest tt (is.0.0, lower_left (height a) (height b) n is.1) (is.0.1, lower_right (height a) (height b) n is.1) e
+opened_complete n again r (Binary Mul kind a b) rest is e = three_complete kind_reads r r (Binary Mul) kind a b rest tt (is.0.0, lower_left (height a) (height b) n is.1) (is.0.1, lower_right (height a) (height b) n is.1) e
+opened_complete n again r (Binary Div kind a b) rest is e = three_complete kind_reads r r (Binary Div) kind a b rest tt (is.0.0, lower_left (height a) (height b) n is.1) (is.0.1, lower_right (height a) (height b) n is.1) e
+opened_complete n again r (Binary Rem kind a b) rest is e = three_complete kind_reads r r (Binary Rem) kind a b rest tt (is.0.0, lower_left (height a) (height b) n is.1) (is.0.1, lower_right (height a) (height b) n is.1) e
+opened_complete n again r (Binary Shl kind a b) rest is e = three_complete kind_reads r r (Binary Shl) kind a b rest tt (is.0.0, lower_left (height a) (height b) n is.1) (is.0.1, lower_right (height a) (height b) n is.1) e
+opened_complete n again r (Binary Shr kind a b) rest is e = three_complete kind_reads r r (Binary Shr) kind a b rest tt (is.0.0, lower_left (height a) (height b) n is.1) (is.0.1, lower_right (height a) (height b) n is.1) e
+opened_complete n again r (Binary And kind a b) rest is e = three_complete kind_reads r r (Binary And) kind a b rest tt (is.0.0, lower_left (height a) (height b) n is.1) (is.0.1, lower_right (height a) (height b) n is.1) e
+opened_complete n again r (Binary Or kind a b) rest is e = three_complete kind_reads r r (Binary Or) kind a b rest tt (is.0.0, lower_left (height a) (height b) n is.1) (is.0.1, lower_right (height a) (height b) n is.1) e
+opened_complete n again r (Binary Xor kind a b) rest is e = three_complete kind_reads r r (Binary Xor) kind a b rest tt (is.0.0, lower_left (height a) (height b) n is.1) (is.0.1, lower_right (height a) (height b) n is.1) e
 opened_complete n again r (Binary Lt kind a b) rest is e = three_complete kind_reads r r (Binary Lt) kind a b rest tt (is.0.0, lower_left (height a) (height b) n is.1) (is.0.1, lower_right (height a) (height b) n is.1) e
 opened_complete n again r (Binary Le kind a b) rest is e = three_complete kind_reads r r (Binary Le) kind a b rest tt (is.0.0, lower_left (height a) (height b) n is.1) (is.0.1, lower_right (height a) (height b) n is.1) e
+opened_complete n again r (Binary Gt kind a b) rest is e = three_complete kind_reads r r (Binary Gt) kind a b rest tt (is.0.0, lower_left (height a) (height b) n is.1) (is.0.1, lower_right (height a) (height b) n is.1) e
+opened_complete n again r (Binary Ge kind a b) rest is e = three_complete kind_reads r r (Binary Ge) kind a b rest tt (is.0.0, lower_left (height a) (height b) n is.1) (is.0.1, lower_right (height a) (height b) n is.1) e
 opened_complete n again r (Binary Eq kind a b) rest is e = three_complete kind_reads r r (Binary Eq) kind a b rest tt (is.0.0, lower_left (height a) (height b) n is.1) (is.0.1, lower_right (height a) (height b) n is.1) e
 opened_complete n again r (Binary Ne kind a b) rest is e = three_complete kind_reads r r (Binary Ne) kind a b rest tt (is.0.0, lower_left (height a) (height b) n is.1) (is.0.1, lower_right (height a) (height b) n is.1) e
 

@@ -1,19 +1,19 @@
 -- What words mean is what they are spelt for.
-use Rattle.std.proofs.Common.{◌≡◌, ℕ, zero, suc, ◌+◌, ◌-◌, ◌^◌, ◌≤◌, ◌<◌, Bool, true, false, ◌&&◌, List, [], ◌∷◌, ◌++◌, Option, None, Some, refl, sym, ap, subst, ◌∙◌, arith, lit<}
-use Rattle.std.specs.Prelude.{if◌then◌else◌, not, ◌==◌, ◌||◌, codes, ℤ, pos, negsuc}
+use Rattle.std.proofs.Common.{◌≡◌, ℕ, suc, ◌-◌, ◌^◌, ◌≤◌, ◌<◌, Bool, true, false, List, [], ◌∷◌, Option, None, Some, refl, sym, ap, subst, ◌∙◌, arith, lit<}
+use Rattle.std.specs.Prelude.{if◌then◌else◌, ◌==◌, ◌||◌, codes, ℤ, pos, negsuc}
 use Rattle.std.specs.Option.{option_map}
 use Rattle.std.specs.List.{list_all}
 use Rattle.std.specs.Fmt.{decimal}
 use Rattle.std.proofs.lemmas.Bool.Decides.{nat_tests}
-use Rattle.dc_core.specs.declared.number.BinOp.{BinOp}
-use Rattle.dc_core.specs.declared.number.BinOp.TheVariants.{Add, Sub, Lt, Le, Eq, Ne}
-use Rattle.dc_core.specs.declared.number.NumKind.{NumKind}
-use Rattle.dc_core.specs.declared.number.NumKind.TheVariants.{S32, U64}
+use Rattle.dc_num.specs.declared.operators.BinOp.{BinOp}
+use Rattle.dc_num.specs.declared.operators.BinOp.TheVariants.{Add, Sub, Mul, Div, Rem, Shl, Shr, And, Or, Xor, Lt, Le, Gt, Ge, Eq, Ne}
+use Rattle.dc_num.specs.declared.kind.NumKind.{NumKind}
+use Rattle.dc_num.specs.declared.kind.NumKind.TheVariants.{Bool as Truth, S8, U8, S16, U16, S32, U32, S64, U64, Ptr}
 use Rattle.dc_text.specs.Words.{same, is_digit, is_word, is_word_part}
 use Rattle.dc_goto.specs.Text.{kind_word, operator_word, number_word, register_word, result_word}
 use Rattle.dc_goto.specs.Lines.{IsNumber, IsConstant, IsOptionalNumber, is_check_part, is_check_name, is_body_name}
 use Rattle.dc_goto.specs.Reading.{decimal_of, number_of, negative, constant_of, word_that, literal, kind_of, result_of, operator_of, register_of}
-use Rattle.dc_goto.proofs.Digits.{and_true, both_true, under_test, decimal_read, read_decimal, decimal_goes_on, decimal_begins, BeginsWithDigit}
+use Rattle.dc_goto.proofs.Digits.{and_true, both_true, under_test, decimal_read, read_decimal, decimal_goes_on, decimal_begins}
 use Rattle.dc_goto.proofs.Pieces.{Means, goes_on, equal_bytes, same_self, by_word}
 
 some_is : {A : Type 0} (x y : A) → Some x ≡ Some y → x ≡ y
@@ -151,36 +151,88 @@ kind_means = record { sound = sound; complete = complete; whole = whole }
     sound : (word : List ℕ) (kind : NumKind) → kind_of word ≡ Some kind → (word ≡ kind_word kind) × Unit {0}
     sound word kind h =
         let P = (word ≡ kind_word kind) × Unit {0} in
-        by_word word (codes "s32") (Some S32) (if same word (codes "u64") then Some U64 else None) (Some kind) P h
+        by_word word (codes "bool") _ _ _ P h
+        (λ w e. (w ∙ ap kind_word (some_is Truth kind e), tt))
+        (λ h. by_word word (codes "s8") _ _ _ P h
+        (λ w e. (w ∙ ap kind_word (some_is S8 kind e), tt))
+        (λ h. by_word word (codes "u8") _ _ _ P h
+        (λ w e. (w ∙ ap kind_word (some_is U8 kind e), tt))
+        (λ h. by_word word (codes "s16") _ _ _ P h
+        (λ w e. (w ∙ ap kind_word (some_is S16 kind e), tt))
+        (λ h. by_word word (codes "u16") _ _ _ P h
+        (λ w e. (w ∙ ap kind_word (some_is U16 kind e), tt))
+        (λ h. by_word word (codes "s32") _ _ _ P h
         (λ w e. (w ∙ ap kind_word (some_is S32 kind e), tt))
-        (λ h. by_word word (codes "u64") (Some U64) None (Some kind) P h
+        (λ h. by_word word (codes "u32") _ _ _ P h
+        (λ w e. (w ∙ ap kind_word (some_is U32 kind e), tt))
+        (λ h. by_word word (codes "s64") _ _ _ P h
+        (λ w e. (w ∙ ap kind_word (some_is S64 kind e), tt))
+        (λ h. by_word word (codes "u64") _ _ _ P h
         (λ w e. (w ∙ ap kind_word (some_is U64 kind e), tt))
-        (λ h. cc))
+        (λ h. by_word word (codes "ptr") _ _ _ P h
+        (λ w e. (w ∙ ap kind_word (some_is Ptr kind e), tt))
+        (λ h. cc))))))))))
 
     complete : (kind : NumKind) → Unit {0} → kind_of (kind_word kind) ≡ Some kind
+    complete Truth is = refl
+    complete S8 is = refl
+    complete U8 is = refl
+    complete S16 is = refl
+    complete U16 is = refl
     complete S32 is = refl
+    complete U32 is = refl
+    complete S64 is = refl
     complete U64 is = refl
+    complete Ptr is = refl
 
     whole : (kind : NumKind) → Unit {0} → list_all goes_on (kind_word kind) ≡ true
+    whole Truth is = refl
+    whole S8 is = refl
+    whole U8 is = refl
+    whole S16 is = refl
+    whole U16 is = refl
     whole S32 is = refl
+    whole U32 is = refl
+    whole S64 is = refl
     whole U64 is = refl
+    whole Ptr is = refl
 
 pub operator_sound : (word : List ℕ) (op : BinOp) → operator_of word ≡ Some op → word ≡ operator_word op
 operator_sound word op h =
     let P = word ≡ operator_word op in
-    by_word word (codes "add") (Some Add) (if same word (codes "sub") then Some Sub else if same word (codes "lt") then Some Lt else if same word (codes "le") then Some Le else if same word (codes "eq") then Some Eq else if same word (codes "ne") then Some Ne else None) (Some op) P h
+    by_word word (codes "add") _ _ _ P h
     (λ w e. w ∙ ap operator_word (some_is Add op e))
-    (λ h. by_word word (codes "sub") (Some Sub) (if same word (codes "lt") then Some Lt else if same word (codes "le") then Some Le else if same word (codes "eq") then Some Eq else if same word (codes "ne") then Some Ne else None) (Some op) P h
+    (λ h. by_word word (codes "sub") _ _ _ P h
     (λ w e. w ∙ ap operator_word (some_is Sub op e))
-    (λ h. by_word word (codes "lt") (Some Lt) (if same word (codes "le") then Some Le else if same word (codes "eq") then Some Eq else if same word (codes "ne") then Some Ne else None) (Some op) P h
+    (λ h. by_word word (codes "mul") _ _ _ P h
+    (λ w e. w ∙ ap operator_word (some_is Mul op e))
+    (λ h. by_word word (codes "div") _ _ _ P h
+    (λ w e. w ∙ ap operator_word (some_is Div op e))
+    (λ h. by_word word (codes "rem") _ _ _ P h
+    (λ w e. w ∙ ap operator_word (some_is Rem op e))
+    (λ h. by_word word (codes "shl") _ _ _ P h
+    (λ w e. w ∙ ap operator_word (some_is Shl op e))
+    (λ h. by_word word (codes "shr") _ _ _ P h
+    (λ w e. w ∙ ap operator_word (some_is Shr op e))
+    (λ h. by_word word (codes "and") _ _ _ P h
+    (λ w e. w ∙ ap operator_word (some_is And op e))
+    (λ h. by_word word (codes "or") _ _ _ P h
+    (λ w e. w ∙ ap operator_word (some_is Or op e))
+    (λ h. by_word word (codes "xor") _ _ _ P h
+    (λ w e. w ∙ ap operator_word (some_is Xor op e))
+    (λ h. by_word word (codes "lt") _ _ _ P h
     (λ w e. w ∙ ap operator_word (some_is Lt op e))
-    (λ h. by_word word (codes "le") (Some Le) (if same word (codes "eq") then Some Eq else if same word (codes "ne") then Some Ne else None) (Some op) P h
+    (λ h. by_word word (codes "le") _ _ _ P h
     (λ w e. w ∙ ap operator_word (some_is Le op e))
-    (λ h. by_word word (codes "eq") (Some Eq) (if same word (codes "ne") then Some Ne else None) (Some op) P h
+    (λ h. by_word word (codes "gt") _ _ _ P h
+    (λ w e. w ∙ ap operator_word (some_is Gt op e))
+    (λ h. by_word word (codes "ge") _ _ _ P h
+    (λ w e. w ∙ ap operator_word (some_is Ge op e))
+    (λ h. by_word word (codes "eq") _ _ _ P h
     (λ w e. w ∙ ap operator_word (some_is Eq op e))
-    (λ h. by_word word (codes "ne") (Some Ne) None (Some op) P h
+    (λ h. by_word word (codes "ne") _ _ _ P h
     (λ w e. w ∙ ap operator_word (some_is Ne op e))
-    (λ h. cc))))))
+    (λ h. cc))))))))))))))))
 
 mapped_some : {A : Type 0} (o : Option A) (r : Option A) → option_map (λ x. Some x) o ≡ Some r → (a : A) × (o ≡ Some a) × (r ≡ Some a)
 mapped_some None r h = cc
@@ -199,8 +251,16 @@ result_means = record { sound = sound; complete = complete; whole = whole }
 
     complete : (result : Option NumKind) → Unit {0} → result_of (result_word result) ≡ Some result
     complete None is = refl
+    complete (Some Truth) is = refl
+    complete (Some S8) is = refl
+    complete (Some U8) is = refl
+    complete (Some S16) is = refl
+    complete (Some U16) is = refl
     complete (Some S32) is = refl
+    complete (Some U32) is = refl
+    complete (Some S64) is = refl
     complete (Some U64) is = refl
+    complete (Some Ptr) is = refl
 
     whole : (result : Option NumKind) → Unit {0} → list_all goes_on (result_word result) ≡ true
     whole None is = refl

@@ -1,14 +1,13 @@
 -- Line forms are read as they are spelt.
-use Rattle.std.proofs.Common.{◌≡◌, ◌≢◌, ℕ, zero, suc, ◌+◌, ◌≤◌, ◌<◌, Bool, true, false, List, [], ◌∷◌, ◌++◌, length, map, Option, None, Some, refl, sym, ap, subst, ◌∙◌, arith, append_assoc}
-use Rattle.std.specs.Prelude.{if◌then◌else◌, codes, flat_map}
+use Rattle.std.proofs.Common.{◌≡◌, ℕ, Bool, true, false, List, [], ◌∷◌, ◌++◌, None, Some, refl, sym, ap, subst, ◌∙◌, append_assoc}
+use Rattle.std.specs.Prelude.{if◌then◌else◌, codes}
 use Rattle.std.specs.List.{AllByRecursion}
-use Rattle.dc_core.specs.declared.number.NumKind.{NumKind}
-use Rattle.dc_text.specs.Words.{same, is_word}
-use Rattle.dc_core.specs.Term.{Term}
+use Rattle.dc_num.specs.declared.kind.NumKind.{NumKind}
+use Rattle.dc_text.specs.Words.{is_word}
 use Rattle.dc_goto.specs.Program.{Instr, Set, Store, Init, LocalZero, Covers, Call, Return, Trap, Statics, OutsideObjects, Draw, Seen, Require, Push, Range, Check, Pop}
-use Rattle.dc_goto.specs.Text.{kind_word, result_word, register_word, spaced, term_word, instr_line}
+use Rattle.dc_goto.specs.Text.{result_word, register_word, instr_line}
 use Rattle.dc_goto.specs.Lines.{Line, Version, Function, Static, Opening, Instruction, End, IsInstr, IsForm, IsOptionalNumber, is_check_name, is_body_name, line_text, form_bytes}
-use Rattle.dc_goto.specs.Reading.{Reading, got, then_read, behind_byte, begins_with, front_word, behind_word, read_word, literal, result_of, register_of, read_one, read_two, read_three, read_four, read_list, read_number, read_kind, read_name, read_low, read_local, read_return, read_objects, read_mark, read_control, read_instr, function_line, static_line_of, opening_line, read_form, read_line}
+use Rattle.dc_goto.specs.Reading.{Reading, got, then_read, behind_byte, begins_with, front_word, behind_word, read_word, literal, result_of, register_of, read_one, read_name, read_low, read_return, read_mark, read_control, read_instr, function_line, static_line_of, opening_line, read_form, read_line}
 use Rattle.dc_goto.proofs.Pieces.{then_parts, then_got, got_parts, behind_parts, by_word, word_whole, Reads, word_reads, one_complete, one_sound, two_complete, two_sound, three_complete, three_sound, four_complete, four_sound, list_complete, list_sound}
 use Rattle.dc_goto.proofs.Meanings.{IsAny, result_means, register_means, that_means, literal_means, word_goes_on, check_name_goes_on, body_name_goes_on}
 use Rattle.dc_goto.proofs.Expressions.{number_reads, kind_reads, low_reads}

@@ -2,10 +2,12 @@
 use Rattle.std.specs.Prelude.{ℕ, zero, suc, ◌+◌, ◌-◌, ℤ, pos, Bool, true, false, ◌&&◌, not, nat_lt, List, [], ◌∷◌, ◌++◌, length, map, take, drop, replicate, Option, None, Some, slice_get, slice_set, nat_eq, if◌then◌else◌, codes}
 use Rattle.std.specs.Option.{option_map}
 use Rattle.std.specs.Cmp.Lexicographic.{pointwise}
-use Rattle.dc_core.specs.declared.number.NumKind.{NumKind}
-use Rattle.dc_core.specs.declared.number.NumKind.TheVariants.{U64}
-use Rattle.dc_core.specs.declared.number.BinOp.{BinOp}
-use Rattle.dc_core.specs.Number.{size_of, bits, converted, computed}
+use Rattle.dc_num.specs.declared.kind.NumKind.{NumKind}
+use Rattle.dc_num.specs.declared.kind.NumKind.TheVariants.{U64}
+use Rattle.dc_num.specs.declared.operators.BinOp.{BinOp}
+use Rattle.dc_num.specs.declared.operators.BinOp.TheVariants.{Shl, Shr}
+use Rattle.dc_num.specs.Conversions.{bits, converted}
+use Rattle.dc_core.specs.Number.{size_of, computed}
 use Rattle.dc_core.specs.Event.{Event, Create, Write, End}
 use Rattle.dc_core.specs.Event as end
 use Rattle.dc_core.specs.Memory.{Memory, Static, function_object, holding, start_of, object_of, offset_of, is_inside, load, store}
@@ -36,11 +38,17 @@ abbrev pub load_from : NumKind → Memory → Option ℤ → Option ℤ
 load_from kind memory None = None
 load_from kind memory (Some z) = load kind (as_natural z) memory
 
--- operands are converted to the operator's kind
+-- the count of a shift is any number
+abbrev pub right_operand : BinOp → NumKind → ℤ → ℤ
+right_operand Shl kind b = b
+right_operand Shr kind b = b
+right_operand op kind b = converted kind b
+
+-- operands are converted to the operator's kind, but for the count of a shift
 abbrev pub operated : BinOp → NumKind → Option ℤ → Option ℤ → Option ℤ
 operated op kind None b = None
 operated op kind (Some a) None = None
-operated op kind (Some a) (Some b) = computed op kind (converted kind a) (converted kind b)
+operated op kind (Some a) (Some b) = computed op kind (converted kind a) (right_operand op kind b)
 
 abbrev pub term_value : Registers → Memory → Term → Option ℤ
 term_value regs memory (Constant kind z) = Some z

@@ -1,7 +1,7 @@
 -- The goto program as plain data.
 use Rattle.std.specs.Prelude.{ℕ, List, Option}
 use Rattle.dc_core.specs.Term.{Term}
-use Rattle.dc_core.specs.declared.number.NumKind.{NumKind}
+use Rattle.dc_num.specs.declared.kind.NumKind.{NumKind}
 
 pub data Instr : Type 0 where
   Set : (register : ℕ) (value : Term) → Instr

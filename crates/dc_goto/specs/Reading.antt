@@ -1,10 +1,10 @@
 -- How the lines of a goto text are read from the front: what is read there, and the bytes behind it.
 use Rattle.std.specs.Prelude.{ℕ, zero, suc, ◌+◌, ◌-◌, ◌*◌, ◌^◌, ℤ, pos, negsuc, Bool, true, false, ◌&&◌, ◌||◌, not, ◌==◌, nat_le, if◌then◌else◌, List, [], ◌∷◌, ◌++◌, length, take, drop, codes, Option, None, Some}
 use Rattle.std.specs.Option.{option_map}
-use Rattle.dc_core.specs.declared.number.BinOp.{BinOp}
-use Rattle.dc_core.specs.declared.number.BinOp.TheVariants.{Add, Sub, Lt, Le, Eq, Ne}
-use Rattle.dc_core.specs.declared.number.NumKind.{NumKind}
-use Rattle.dc_core.specs.declared.number.NumKind.TheVariants.{S32, U64}
+use Rattle.dc_num.specs.declared.operators.BinOp.{BinOp}
+use Rattle.dc_num.specs.declared.operators.BinOp.TheVariants.{Add, Sub, Mul, Div, Rem, Shl, Shr, And, Or, Xor, Lt, Le, Gt, Ge, Eq, Ne}
+use Rattle.dc_num.specs.declared.kind.NumKind.{NumKind}
+use Rattle.dc_num.specs.declared.kind.NumKind.TheVariants.{Bool as Truth, S8, U8, S16, U16, S32, U32, S64, U64, Ptr}
 use Rattle.dc_core.specs.Term.{Term, Constant, Register, Object, Load, Binary}
 use Rattle.dc_text.specs.Words.{same, is_digit, is_word}
 use Rattle.dc_goto.specs.Program.{Instr, Set, Store, Init, LocalZero, Covers, Call, Return, Trap, Statics, OutsideObjects, Draw, Seen, Require, Push, Range, Check, Pop}
@@ -104,7 +104,18 @@ abbrev pub literal : List ℕ → List ℕ → Option (Unit {0})
 literal wanted word = if same word wanted then Some tt else None
 
 abbrev pub kind_of : List ℕ → Option NumKind
-kind_of word = if same word (codes "s32") then Some S32 else if same word (codes "u64") then Some U64 else None
+kind_of word =
+    if same word (codes "bool") then Some Truth
+    else if same word (codes "s8") then Some S8
+    else if same word (codes "u8") then Some U8
+    else if same word (codes "s16") then Some S16
+    else if same word (codes "u16") then Some U16
+    else if same word (codes "s32") then Some S32
+    else if same word (codes "u32") then Some U32
+    else if same word (codes "s64") then Some S64
+    else if same word (codes "u64") then Some U64
+    else if same word (codes "ptr") then Some Ptr
+    else None
 
 abbrev pub result_of : List ℕ → Option (Option NumKind)
 result_of word = if same word (codes "void") then Some None else option_map Some (kind_of word)
@@ -113,8 +124,18 @@ abbrev pub operator_of : List ℕ → Option BinOp
 operator_of word =
     if same word (codes "add") then Some Add
     else if same word (codes "sub") then Some Sub
+    else if same word (codes "mul") then Some Mul
+    else if same word (codes "div") then Some Div
+    else if same word (codes "rem") then Some Rem
+    else if same word (codes "shl") then Some Shl
+    else if same word (codes "shr") then Some Shr
+    else if same word (codes "and") then Some And
+    else if same word (codes "or") then Some Or
+    else if same word (codes "xor") then Some Xor
     else if same word (codes "lt") then Some Lt
     else if same word (codes "le") then Some Le
+    else if same word (codes "gt") then Some Gt
+    else if same word (codes "ge") then Some Ge
     else if same word (codes "eq") then Some Eq
     else if same word (codes "ne") then Some Ne
     else None

@@ -1,11 +1,10 @@
 -- The rules for the lines of a goto text.
 use Rattle.std.specs.Prelude.{◌≡◌, ℕ, suc, Bool, true, false, ◌&&◌, ◌||◌, not, ◌==◌, nat_lt, nat_le, if◌then◌else◌, List, [], ◌∷◌, ◌++◌, length, flat_map, codes, Option, None, Some, slice_get}
 use Rattle.std.specs.List.{list_all, list_any, position_or_len, AllByRecursion}
-use Rattle.dc_core.specs.declared.number.NumKind.{NumKind}
-use Rattle.dc_core.specs.Number.{is_value}
+use Rattle.dc_num.specs.Kinds.{is_value}
 use Rattle.dc_core.specs.Term.{Term, Constant, Register, Object, Load, Binary}
 use Rattle.dc_text.specs.Words.{same}
-use Rattle.dc_goto.specs.Program.{Instr, Set, Store, Init, LocalZero, Covers, Call, Return, Trap, Statics, OutsideObjects, Draw, Seen, Require, Push, Range, Check, Pop, Sig, StaticVar, GotoProgram}
+use Rattle.dc_goto.specs.Program.{Instr, Set, Store, Init, LocalZero, Covers, Call, Return, Trap, Statics, OutsideObjects, Draw, Seen, Require, Push, Range, Check, Pop, Sig, GotoProgram}
 use Rattle.dc_goto.specs.Text.{IsSpelt}
 use Rattle.dc_goto.specs.Lines.{BodyHead, Line, Version, Function, Static, Opening, Instruction, End, IsForm, AreLines, forms_of}
 

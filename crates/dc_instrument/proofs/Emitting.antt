@@ -1,8 +1,8 @@
 -- One turn of a loop that emits: what is left of the list.
 use Rattle.std.proofs.Common.{◌≡◌, ℕ, Bool, false, suc, ◌+◌, ◌-◌, ◌<◌, List, [], ◌∷◌, ◌++◌, drop, map, length, ap, sym, ◌∙◌, arith, drop-cons, add-one, get_or, append_assoc}
 use Rattle.std.specs.Bool.{◌==◌}
-use Rattle.dc_core.specs.declared.number.NumKind.{NumKind}
-use Rattle.dc_core.specs.declared.number.NumKind.TheVariants.{S32}
+use Rattle.dc_num.specs.declared.kind.NumKind.{NumKind}
+use Rattle.dc_num.specs.declared.kind.NumKind.TheVariants.{S32}
 use Rattle.dc_core.specs.Term.{Term, Register}
 use Rattle.dc_core.specs.declared.term.Term.TheFolds.{fold-roll-Term}
 use Rattle.dc_core.specs.declared.term.Term.TheOpen.{Term-F}

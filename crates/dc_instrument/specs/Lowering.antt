@@ -1,7 +1,7 @@
 -- The goto program of a program: its function's body, and the start that draws, checks and calls.
 use Rattle.std.specs.Prelude.{ℕ, zero, suc, ◌+◌, pos, Bool, List, [], ◌∷◌, ◌++◌, length, map, codes, Option, None, Some, if◌then◌else◌}
-use Rattle.dc_core.specs.declared.number.NumKind.{NumKind}
-use Rattle.dc_core.specs.declared.number.NumKind.TheVariants.{S32, U64}
+use Rattle.dc_num.specs.declared.kind.NumKind.{NumKind}
+use Rattle.dc_num.specs.declared.kind.NumKind.TheVariants.{S32, U64}
 use Rattle.dc_core.specs.Assertion.{assigns_name, postcondition_name}
 use Rattle.dc_core.specs.Program as program
 use Rattle.dc_core.specs.Program.{Expr, Stmt, Function, Program}

@@ -1,12 +1,13 @@
 -- More choices behind those that a run takes change nothing.
 use Rattle.std.proofs.Common.{◌≡◌, ℕ, zero, suc, ◌-◌, ℤ, Bool, true, false, List, [], ◌∷◌, ◌++◌, length, map, Option, None, Some, refl, sym, ap, subst, ◌∙◌, arith, append-nil, length-append, inl, inr, ◌⊎◌}
 use Rattle.std.specs.Prelude.{slice_get, nat_lt, codes}
-use Rattle.dc_core.specs.declared.number.NumKind.{NumKind}
+use Rattle.dc_num.specs.declared.kind.NumKind.{NumKind}
 use Rattle.dc_core.specs.Event as end
 use Rattle.dc_core.specs.Event.{Event, Write, End, Returned, Blocked, Undefined, NoBody, ObjectLimit, DepthLimit, ChoicesEnded, Cut}
 use Rattle.dc_core.specs.Choices.{Drawn, Drew, Dry, Draws, after, bind, ◌>>=◌, give, tell, draw, draw_bytes, draw_value}
 use Rattle.dc_core.specs.Memory.{Memory, ObjKind, object_of, offset_of, store}
-use Rattle.dc_core.specs.Number.{size_of, converted}
+use Rattle.dc_num.specs.Conversions.{converted}
+use Rattle.dc_core.specs.Number.{size_of}
 use Rattle.dc_core.specs.Entry.{static_objects, live_object, dead_object, outside_object, outside_objects, with_outside}
 use Rattle.dc_core.specs.World.{World, is_full}
 use Rattle.dc_core.specs.Contract.{holds}

@@ -1,6 +1,6 @@
 -- What a write did, told by the instructions that write.
 use Rattle.std.specs.Prelude.{◌≡◌, ℕ, List, [], ◌∷◌, Option, Some, None}
-use Rattle.dc_core.specs.declared.number.NumKind.{NumKind}
+use Rattle.dc_num.specs.declared.kind.NumKind.{NumKind}
 use Rattle.dc_core.specs.Event.{Write, Undefined}
 use Rattle.dc_core.specs.Memory.{object_of, offset_of}
 use Rattle.dc_core.specs.Number.{size_of}

@@ -10,7 +10,8 @@ ghost use Rattle.dc_world.specs.Sets.{set_view};
 
 use crate::term::{natural_value, term_value};
 use dc_core::{NumKind, Term};
-use dc_world::{Memory, WriteSet, convert, object_number, offset};
+use dc_num::convert;
+use dc_world::{Memory, WriteSet, object_number, offset};
 
 /// What instructions read and change: the registers, the write sets (innermost last), the memory, and the objects of the
 /// running function (newest last).

@@ -3,11 +3,13 @@ ghost use Rattle.std.specs.Prelude.{◌≡◌, pos, map, Some, slice_get, IfOk, 
 ghost use Rattle.dc_core.specs.Memory.{start_of};
 ghost use Rattle.dc_core.specs.Contract.{holds as value_holds};
 ghost use Rattle.dc_core.specs.View.{term_view};
-ghost use Rattle.dc_goto.specs.Machine.{register_value, operated, term_value as value_of, natural_value as natural_of, term_values as values_of};
+ghost use Rattle.dc_num.specs.Operators.{IsRight};
+ghost use Rattle.dc_goto.specs.Machine.{register_value, right_operand, operated, term_value as value_of, natural_value as natural_of, term_values as values_of};
 ghost use Rattle.dc_world.specs.View.{memory_view};
 
 use dc_core::{BinOp, NumKind, Term};
-use dc_world::{Memory, compute, convert, natural_bits};
+use dc_num::{bits, convert};
+use dc_world::{Memory, compute};
 use sqlite_items::at;
 use std::alloc::{AllocError, Global};
 
@@ -29,11 +31,22 @@ pub fn start(number: u64) -> i128
     number as i128 * 281474976710656
 }
 
-// What an operator makes of two values, which are converted to its kind.
+// The operand on the right: the count of a shift as it is, any other one converted to the operator's kind.
+fn right(op: BinOp, kind: NumKind, b: i128) -> i128
+    ensures value { result ≡ right_operand op kind b }
+    ensures fits { IsRight op kind result }
+{
+    match op {
+        BinOp::Shl | BinOp::Shr => b,
+        _ => convert(kind, b),
+    }
+}
+
+// What an operator makes of two values, which are converted to its kind, but for the count of a shift.
 fn operate(op: BinOp, kind: NumKind, a: i128, b: i128) -> Option<i128>
     ensures { result ≡ operated op kind (Some a) (Some b) }
 {
-    compute(op, kind, convert(kind, a), convert(kind, b))
+    compute(op, kind, convert(kind, a), right(op, kind, b))
 }
 
 /// The value of an expression, where it has one.
@@ -46,7 +59,7 @@ pub fn term_value(regs: &[Option<i128>], memory: &Memory, term: &Term) -> Option
         Term::Object(number) => Some(start(*number)),
         Term::Load(kind, place) => {
             let place = term_value(regs, memory, place.get())?;
-            memory.load(*kind, natural_bits(NumKind::U64, place))
+            memory.load(*kind, bits(NumKind::U64, place))
         }
         Term::Binary(op, kind, a, b) => {
             let a = term_value(regs, memory, a.get())?;
@@ -62,7 +75,7 @@ pub fn natural_value(regs: &[Option<i128>], memory: &Memory, term: &Term) -> Opt
 {
     match term_value(regs, memory, term) {
         None => None,
-        Some(z) => Some(natural_bits(NumKind::U64, z)),
+        Some(z) => Some(bits(NumKind::U64, z)),
     }
 }
 

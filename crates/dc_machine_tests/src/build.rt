@@ -146,3 +146,54 @@ pub fn adding_program(alloc: Global) -> Result<GotoProgram, AllocError> {
 pub fn startless_program(alloc: Global) -> Result<GotoProgram, AllocError> {
     program(alloc, Items::new(alloc))
 }
+
+// A start with registers and this code, alone.
+fn start_program(alloc: Global, regs: u64, code: Items<Instr>) -> Result<GotoProgram, AllocError> {
+    let mut bodies = Items::new(alloc);
+    bodies.push(body(alloc, ".start", 0, regs, code)?)?;
+    program(alloc, bodies)
+}
+
+// A number as a constant of 64 bits.
+fn wide(z: i128) -> Term {
+    let kind = if z < 0 { NumKind::S64 } else { NumKind::U64 };
+    Term::Constant(kind, z)
+}
+
+/// A start that returns what an operator makes of two numbers.
+pub fn computing_program(
+    alloc: Global,
+    op: BinOp,
+    kind: NumKind,
+    a: i128,
+    b: i128,
+) -> Result<GotoProgram, AllocError> {
+    let a = Boxed::new(alloc, wide(a))?;
+    let b = Boxed::new(alloc, wide(b))?;
+    let mut code = Items::new(alloc);
+    code.push(Instr::Return(Some(Term::Binary(op, kind, a, b))))?;
+    start_program(alloc, 0, code)
+}
+
+/// A start that writes a number as a value of one kind, and returns what stands there as a value of another.
+pub fn storing_program(
+    alloc: Global,
+    written: NumKind,
+    z: i128,
+    read: NumKind,
+) -> Result<GotoProgram, AllocError> {
+    let place = Boxed::new(alloc, Term::Register(0))?;
+    let mut code = Items::new(alloc);
+    code.push(Instr::LocalZero(0, 8))?;
+    code.push(Instr::Store(written, Term::Register(0), wide(z)))?;
+    code.push(Instr::Return(Some(Term::Load(read, place))))?;
+    start_program(alloc, 1, code)
+}
+
+/// A start that returns a drawn value of the kind.
+pub fn drawing_program(alloc: Global, kind: NumKind) -> Result<GotoProgram, AllocError> {
+    let mut code = Items::new(alloc);
+    code.push(Instr::Draw(0, kind))?;
+    code.push(Instr::Return(Some(Term::Register(0))))?;
+    start_program(alloc, 1, code)
+}

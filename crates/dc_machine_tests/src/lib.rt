@@ -4,4 +4,6 @@
 #[cfg(test)]
 mod build;
 #[cfg(test)]
+mod numbers;
+#[cfg(test)]
 mod runs;

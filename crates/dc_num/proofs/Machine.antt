@@ -54,14 +54,14 @@ abbrev settled_if : Bool → NumKind → ℤ → Option ℤ
 settled_if s k z = if s then (if is_value k z then Some z else None) else Some (int_rem_euclid z (pos (2 ^ bits_of k)))
 
 -- a quotient that has a value is that value
-quotient_value : (k : NumKind) (a b : ℤ) → IsValue k a → IsValue k b → is_some (settled k (int_div a b)) ≡ true → settled k (int_div a b) ≡ Some (int_div a b)
+pub quotient_value : (k : NumKind) (a b : ℤ) → IsValue k a → IsValue k b → is_some (settled k (int_div a b)) ≡ true → settled k (int_div a b) ≡ Some (int_div a b)
 quotient_value k a b left right some = by (is_signed k) refl some
   where
     by : (s : Bool) → is_signed k ≡ s → is_some (settled_if s k (int_div a b)) ≡ true → settled_if s k (int_div a b) ≡ Some (int_div a b)
     by true e some = tested (int_div a b) (is_value k (int_div a b)) some
     by false e some = ap Some (unsigned_quotient (2 ^ bits_of k) a b (positive k) (rw e at left.above) (rw e at left.below) (rw e at right.above))
 
-rem-is : (a b : ℤ) → int_rem a b ≡ a -ℤ int_div a b *ℤ b
+pub rem-is : (a b : ℤ) → int_rem a b ≡ a -ℤ int_div a b *ℤ b
 rem-is a b = omega (arith, ints, quot-rem a b)
 
 nonzero-quotient : (k : NumKind) (a b : ℤ) (t : Bool) → t ≡ false → (if t then None else settled k (int_div a b)) ≡ settled k (int_div a b)

@@ -7,6 +7,6 @@ mod kind;
 mod operators;
 
 pub use arithmetic::{binary, unary};
-pub use conversions::{common, convert, promote};
+pub use conversions::{bits, common, convert, promote, truth, value};
 pub use kind::NumKind;
 pub use operators::{BinOp, UnOp};

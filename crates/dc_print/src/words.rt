@@ -13,8 +13,16 @@ pub fn put_kind(out: &mut Vec<u8>, kind: NumKind) -> Result<(), AllocError>
     ensures { OnOk result (out.new.items ≡ out.old.items ++ kind_word kind) }
 {
     match kind {
+        NumKind::Bool => out.extend_from_slice(b"bool"),
+        NumKind::S8 => out.extend_from_slice(b"s8"),
+        NumKind::U8 => out.extend_from_slice(b"u8"),
+        NumKind::S16 => out.extend_from_slice(b"s16"),
+        NumKind::U16 => out.extend_from_slice(b"u16"),
         NumKind::S32 => out.extend_from_slice(b"s32"),
+        NumKind::U32 => out.extend_from_slice(b"u32"),
+        NumKind::S64 => out.extend_from_slice(b"s64"),
         NumKind::U64 => out.extend_from_slice(b"u64"),
+        NumKind::Ptr => out.extend_from_slice(b"ptr"),
     }
 }
 
@@ -25,8 +33,18 @@ pub fn put_operator(out: &mut Vec<u8>, op: BinOp) -> Result<(), AllocError>
     match op {
         BinOp::Add => out.extend_from_slice(b"add"),
         BinOp::Sub => out.extend_from_slice(b"sub"),
+        BinOp::Mul => out.extend_from_slice(b"mul"),
+        BinOp::Div => out.extend_from_slice(b"div"),
+        BinOp::Rem => out.extend_from_slice(b"rem"),
+        BinOp::Shl => out.extend_from_slice(b"shl"),
+        BinOp::Shr => out.extend_from_slice(b"shr"),
+        BinOp::And => out.extend_from_slice(b"and"),
+        BinOp::Or => out.extend_from_slice(b"or"),
+        BinOp::Xor => out.extend_from_slice(b"xor"),
         BinOp::Lt => out.extend_from_slice(b"lt"),
         BinOp::Le => out.extend_from_slice(b"le"),
+        BinOp::Gt => out.extend_from_slice(b"gt"),
+        BinOp::Ge => out.extend_from_slice(b"ge"),
         BinOp::Eq => out.extend_from_slice(b"eq"),
         BinOp::Ne => out.extend_from_slice(b"ne"),
     }

@@ -4,3 +4,4 @@ pub mod Statements
 pub mod Calls
 pub mod Entries
 pub mod Runs
+pub mod Operated

@@ -1,7 +1,7 @@
 -- Places from 2^64 on: so few objects have none there.
 use Rattle.std.proofs.Common.{◌≡◌, ℕ, zero, suc, ◌^◌, ◌<◌, ◌≤◌, true, false, List, [], ◌∷◌, length, Option, Some, None, refl, ap, sym, ◌∙◌, arith, ℤ, append-nil}
 use Rattle.std.specs.Prelude.{if◌then◌else◌, Bool}
-use Rattle.dc_core.specs.declared.number.NumKind.TheVariants.{S32}
+use Rattle.dc_num.specs.declared.kind.NumKind.TheVariants.{S32}
 use Rattle.dc_core.specs.Memory.{Object, Memory, object_of, offset_of, object_at, update, changed, with_bytes, holds_range, is_inside, encoded, load, store, killed, kill_all}
 use Rattle.dc_core.specs.Contract.{WriteSet, with_ranges, denoted}
 

@@ -7,7 +7,7 @@ use Rattle.dc_core.specs.Memory.{Memory, object_of, offset_of, store}
 use Rattle.dc_core.specs.Program.{Expr, Stmt, Assign}
 use Rattle.dc_core.specs.Value.{Body, value, place}
 use Rattle.dc_core.specs.Run.{State, Out, Normal, Note, Did, Failed, tick, tick_at, then_do, contract_mode, with_memory, write, perform, run}
-use Rattle.dc_core.specs.declared.number.NumKind.TheVariants.{S32}
+use Rattle.dc_num.specs.declared.kind.NumKind.TheVariants.{S32}
 use Rattle.dc_world.specs.Told.{Hearing, told}
 use Rattle.dc_run.specs.declared.state.Flow.TheVariants as flow
 use Rattle.dc_run.specs.Part.{HasCome}

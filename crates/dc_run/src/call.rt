@@ -1,6 +1,6 @@
 // Calls.
 ghost use Rattle.std.specs.Prelude.{◌≡◌, ◌<◌, ◌≤◌, [], ◌∷◌, ◌++◌, ℕ, List, length, map, reverse, true, IfOk, OnOk, OnErr};
-ghost use Rattle.dc_core.specs.declared.number.NumKind.TheVariants.{S32};
+ghost use Rattle.dc_num.specs.declared.kind.NumKind.TheVariants.{S32};
 ghost use Rattle.dc_core.specs.Event.{Create};
 ghost use Rattle.dc_core.specs.Memory.{start_of, encoded};
 ghost use Rattle.dc_core.specs.Run.{Out, Note, State as PlainState, with_parameter, with_parameters, Did, finished as finished_out, call as called, run as run_of, tested, ensured, contract_mode};
@@ -20,8 +20,9 @@ use crate::state::{Flow, State, undefined};
 use crate::value::{Scope, start, value};
 use dc_choice::Watch;
 use dc_core::{Expr, Function, NumKind};
+use dc_num::bits;
 use dc_text::Event;
-use dc_world::{End, Log, Memory, ObjKind, Object, Which, WriteSet, natural_bits};
+use dc_world::{End, Log, Memory, ObjKind, Object, Which, WriteSet};
 use std::alloc::{AllocError, Global};
 use std::mem;
 
@@ -29,7 +30,7 @@ use std::mem;
 fn int_bytes(alloc: Global, value: i128) -> Result<Vec<u8>, AllocError>
     ensures { IfOk result (λ bytes. bytes.items ≡ encoded S32 value) }
 {
-    let bits = natural_bits(NumKind::S32, value);
+    let bits = bits(NumKind::S32, value);
     let bytes = [
         (bits % 256) as u8,
         (bits / 256 % 256) as u8,

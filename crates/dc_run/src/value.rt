@@ -1,14 +1,18 @@
 // The values and places of expressions.
-ghost use Rattle.std.specs.Prelude.{◌≡◌, ◌≤◌, ◌<◌, ◌^◌, length, pos, Some, slice_get, option_copied};
-ghost use Rattle.dc_core.specs.declared.number.NumKind.TheVariants.{S32};
+ghost use Rattle.std.specs.Prelude.{◌≡◌, ◌≤◌, ◌<◌, ◌^◌, ◌+ℤ◌, ◌-ℤ◌, ◌*ℤ◌, length, pos, Some, slice_get, option_copied};
+ghost use Rattle.std.specs.Int.{int_div_euclid};
+ghost use Rattle.dc_num.specs.declared.kind.NumKind.TheVariants.{S32};
 ghost use Rattle.dc_core.specs.Memory.{start_of, load, store};
-ghost use Rattle.dc_core.specs.Number.{settled, truth as truth_of, computed};
+ghost use Rattle.dc_num.specs.Conversions.{value_of_bits};
+ghost use Rattle.dc_num.specs.Operators.{settled, quotient, remainder as remainder_of, shifted_left, shifted_right};
+ghost use Rattle.dc_core.specs.Number.{computed};
 ghost use Rattle.dc_core.specs.Value.{variable_place as place_of_variable, parameter_value as value_of_parameter, result_value as value_of_result, parameter_place as place_of_parameter, value as value_of, place as place_of};
 ghost use Rattle.dc_core.specs.View.{expr_view};
 ghost use Rattle.dc_world.specs.View.{memory_view};
 ghost use Rattle.dc_run.specs.View.{scope_view, IsWritten};
 
 use dc_core::{BinOp, Expr, NumKind};
+use dc_num::{binary, bits, truth};
 use dc_world::Memory;
 use sqlite_items::at;
 
@@ -117,17 +121,9 @@ fn settle(z: i128) -> Option<i128>
     }
 }
 
-// The int that a comparison gives.
-fn truth(holds: bool) -> i128
-    ensures { result ≡ truth_of holds }
-{
-    if holds { 1 } else { 0 }
-}
-
 // The sum, where it is an int.
-#[tactic(auto, unfolding(dc_core::specs::Number::computed))]
 fn add(a: i128, b: i128) -> Option<i128>
-    ensures { result ≡ computed BinOp.Add S32 a b }
+    ensures { result ≡ settled S32 (a +ℤ b) }
 {
     match a.checked_add(b) {
         None => None,
@@ -136,9 +132,8 @@ fn add(a: i128, b: i128) -> Option<i128>
 }
 
 // The difference, where it is an int.
-#[tactic(auto, unfolding(dc_core::specs::Number::computed))]
 fn subtract(a: i128, b: i128) -> Option<i128>
-    ensures { result ≡ computed BinOp.Sub S32 a b }
+    ensures { result ≡ settled S32 (a -ℤ b) }
 {
     match a.checked_sub(b) {
         None => None,
@@ -146,16 +141,97 @@ fn subtract(a: i128, b: i128) -> Option<i128>
     }
 }
 
+// The product, where it is an int.
+fn multiply(a: i128, b: i128) -> Option<i128>
+    ensures { result ≡ settled S32 (a *ℤ b) }
+{
+    match a.checked_mul(b) {
+        None => None,
+        Some(z) => settle(z),
+    }
+}
+
+// The quotient, truncated toward zero, where there is one that is an int.
+fn divide(a: i128, b: i128) -> Option<i128>
+    ensures { result ≡ quotient S32 a b }
+{
+    if b == 0 {
+        return None;
+    }
+    match a.checked_div(b) {
+        None => None,
+        Some(z) => settle(z),
+    }
+}
+
+// What is left beside the quotient, where there is one.
+fn remainder(a: i128, b: i128) -> Option<i128>
+    ensures { result ≡ remainder_of S32 a b }
+{
+    match divide(a, b) {
+        None => None,
+        Some(_) => a.checked_rem(b),
+    }
+}
+
+// The number moved to the left, where that is an int. A greater number than an int doesn't become one.
+#[tactic(auto, unfolding(dc_num::specs::Operators::binary_of))]
+fn shift_left(a: i128, count: i128) -> Option<i128>
+    ensures { result ≡ shifted_left S32 a count }
+{
+    if a < 0 {
+        return None;
+    }
+    if a > i32::MAX as i128 {
+        return None;
+    }
+    binary(BinOp::Shl, NumKind::S32, a, count)
+}
+
+// The number moved to the right: its quotient by a power of two, rounded down.
+fn lowered(a: i128, count: u32) -> i128
+    requires { count < 32 }
+    ensures { result ≡ int_div_euclid a (pos (2 ^ count)) }
+{
+    a >> count
+}
+
+fn shift_right(a: i128, count: i128) -> Option<i128>
+    ensures { result ≡ shifted_right S32 a count }
+{
+    if count < 0 || 32 <= count {
+        return None;
+    }
+    Some(lowered(a, count as u32))
+}
+
+// The int that the bits spell.
+fn int(bits: u64) -> i128
+    ensures { result ≡ value_of_bits S32 bits }
+{
+    dc_num::value(NumKind::S32, bits)
+}
+
 // What an operator makes of two ints.
-#[tactic(auto, unfolding(dc_core::specs::Number::computed))]
+#[tactic(auto, unfolding(dc_core::specs::Number::computed, dc_num::specs::Operators::binary_of))]
 fn operate(op: BinOp, a: i128, b: i128) -> Option<i128>
     ensures { result ≡ computed op S32 a b }
 {
     match op {
         BinOp::Add => add(a, b),
         BinOp::Sub => subtract(a, b),
+        BinOp::Mul => multiply(a, b),
+        BinOp::Div => divide(a, b),
+        BinOp::Rem => remainder(a, b),
+        BinOp::Shl => shift_left(a, b),
+        BinOp::Shr => shift_right(a, b),
+        BinOp::And => Some(int(bits(NumKind::S32, a) & bits(NumKind::S32, b))),
+        BinOp::Or => Some(int(bits(NumKind::S32, a) | bits(NumKind::S32, b))),
+        BinOp::Xor => Some(int(bits(NumKind::S32, a) ^ bits(NumKind::S32, b))),
         BinOp::Lt => Some(truth(a < b)),
         BinOp::Le => Some(truth(a <= b)),
+        BinOp::Gt => Some(truth(a > b)),
+        BinOp::Ge => Some(truth(a >= b)),
         BinOp::Eq => Some(truth(a == b)),
         BinOp::Ne => Some(truth(a != b)),
     }

@@ -2,7 +2,6 @@
 ghost use Rattle.std.specs.Prelude.{◌≡◌, length, map};
 ghost use Rattle.std.specs.List.{list_all};
 ghost use Rattle.std.specs.Option.{option_map};
-ghost use Rattle.dc_core.specs.Number.{is_value as value_is};
 ghost use Rattle.dc_core.specs.View.{term_view};
 ghost use Rattle.dc_goto.specs.Shape.{is_size as size_is, leaves as instr_leaves, may_act as acts, may_call as calls, may_give as gives, may_mean as means, may_return as returns, may_take as takes, sig_of};
 ghost use Rattle.dc_goto.specs.View.{instr_view, sig_view};
@@ -10,18 +9,8 @@ ghost use Rattle.dc_scan.specs.View.{head_view};
 
 use crate::functions::Functions;
 use crate::lines::BodyHead;
-use dc_core::{NumKind, Term};
+use dc_core::Term;
 use dc_goto::{Instr, Sig};
-
-// Whether the number is a value of the kind.
-fn is_value(kind: NumKind, number: i128) -> bool
-    ensures { result ≡ value_is kind number }
-{
-    match kind {
-        NumKind::S32 => !(number < -2147483648) && !(2147483647 < number),
-        NumKind::U64 => !(number < 0) && !(18446744073709551615 < number),
-    }
-}
 
 /// Whether this is the size of an object.
 pub fn is_size(size: u64) -> bool
@@ -35,7 +24,7 @@ fn may_mean(objects: u64, regs: u64, term: &Term) -> bool
     ensures { result ≡ means objects regs (term_view term.now) }
 {
     match term {
-        Term::Constant(kind, number) => is_value(*kind, *number),
+        Term::Constant(kind, number) => kind.is_value(*number),
         Term::Register(register) => *register < regs,
         Term::Object(object) => *object <= objects,
         Term::Load(_, address) => may_mean(objects, regs, address.get()),

@@ -17,10 +17,26 @@ use std::alloc::Global;
 pub fn kind_of(word: &[u8]) -> Option<NumKind>
     ensures { result ≡ kind_in word.now }
 {
-    if word == b"s32".as_slice() {
+    if word == b"bool".as_slice() {
+        Some(NumKind::Bool)
+    } else if word == b"s8".as_slice() {
+        Some(NumKind::S8)
+    } else if word == b"u8".as_slice() {
+        Some(NumKind::U8)
+    } else if word == b"s16".as_slice() {
+        Some(NumKind::S16)
+    } else if word == b"u16".as_slice() {
+        Some(NumKind::U16)
+    } else if word == b"s32".as_slice() {
         Some(NumKind::S32)
+    } else if word == b"u32".as_slice() {
+        Some(NumKind::U32)
+    } else if word == b"s64".as_slice() {
+        Some(NumKind::S64)
     } else if word == b"u64".as_slice() {
         Some(NumKind::U64)
+    } else if word == b"ptr".as_slice() {
+        Some(NumKind::Ptr)
     } else {
         None
     }
@@ -34,10 +50,30 @@ pub fn operator_of(word: &[u8]) -> Option<BinOp>
         Some(BinOp::Add)
     } else if word == b"sub".as_slice() {
         Some(BinOp::Sub)
+    } else if word == b"mul".as_slice() {
+        Some(BinOp::Mul)
+    } else if word == b"div".as_slice() {
+        Some(BinOp::Div)
+    } else if word == b"rem".as_slice() {
+        Some(BinOp::Rem)
+    } else if word == b"shl".as_slice() {
+        Some(BinOp::Shl)
+    } else if word == b"shr".as_slice() {
+        Some(BinOp::Shr)
+    } else if word == b"and".as_slice() {
+        Some(BinOp::And)
+    } else if word == b"or".as_slice() {
+        Some(BinOp::Or)
+    } else if word == b"xor".as_slice() {
+        Some(BinOp::Xor)
     } else if word == b"lt".as_slice() {
         Some(BinOp::Lt)
     } else if word == b"le".as_slice() {
         Some(BinOp::Le)
+    } else if word == b"gt".as_slice() {
+        Some(BinOp::Gt)
+    } else if word == b"ge".as_slice() {
+        Some(BinOp::Ge)
     } else if word == b"eq".as_slice() {
         Some(BinOp::Eq)
     } else if word == b"ne".as_slice() {

@@ -7,7 +7,7 @@ struct Case {
     answer: Answer,
 }
 
-const CASES: [Case; 158] = [
+const CASES: [Case; 172] = [
     Case {
         text: "dcc 1 \n",
         answer: Answer::Line(1),
@@ -81,7 +81,7 @@ const CASES: [Case; 158] = [
         answer: Answer::Line(2),
     },
     Case {
-        text: "dcc 1\nfunction f s16\n",
+        text: "dcc 1\nfunction f s24\n",
         answer: Answer::Line(2),
     },
     Case {
@@ -217,11 +217,11 @@ const CASES: [Case; 158] = [
         answer: Answer::Line(3),
     },
     Case {
-        text: "dcc 1\nbody .start 0 1\nset 0 (mul s32 (s32 1) (s32 1))\nreturn\nend\n",
+        text: "dcc 1\nbody .start 0 1\nset 0 (mod s32 (s32 1) (s32 1))\nreturn\nend\n",
         answer: Answer::Line(3),
     },
     Case {
-        text: "dcc 1\nbody .start 0 1\nset 0 (s16 1)\nreturn\nend\n",
+        text: "dcc 1\nbody .start 0 1\nset 0 (s24 1)\nreturn\nend\n",
         answer: Answer::Line(3),
     },
     Case {
@@ -343,6 +343,62 @@ const CASES: [Case; 158] = [
     Case {
         text: "dcc 1\nbody .start 0 1\nset 0 (u64 18446744073709551616)\nreturn\nend\n",
         answer: Answer::Shape(3),
+    },
+    Case {
+        text: "dcc 1\nbody .start 0 1\nset 0 (bool 2)\nreturn\nend\n",
+        answer: Answer::Shape(3),
+    },
+    Case {
+        text: "dcc 1\nbody .start 0 1\nset 0 (bool -1)\nreturn\nend\n",
+        answer: Answer::Shape(3),
+    },
+    Case {
+        text: "dcc 1\nbody .start 0 1\nset 0 (s8 128)\nreturn\nend\n",
+        answer: Answer::Shape(3),
+    },
+    Case {
+        text: "dcc 1\nbody .start 0 1\nset 0 (s8 -129)\nreturn\nend\n",
+        answer: Answer::Shape(3),
+    },
+    Case {
+        text: "dcc 1\nbody .start 0 1\nset 0 (u8 256)\nreturn\nend\n",
+        answer: Answer::Shape(3),
+    },
+    Case {
+        text: "dcc 1\nbody .start 0 1\nset 0 (s16 32768)\nreturn\nend\n",
+        answer: Answer::Shape(3),
+    },
+    Case {
+        text: "dcc 1\nbody .start 0 1\nset 0 (u16 65536)\nreturn\nend\n",
+        answer: Answer::Shape(3),
+    },
+    Case {
+        text: "dcc 1\nbody .start 0 1\nset 0 (u32 4294967296)\nreturn\nend\n",
+        answer: Answer::Shape(3),
+    },
+    Case {
+        text: "dcc 1\nbody .start 0 1\nset 0 (s64 9223372036854775808)\nreturn\nend\n",
+        answer: Answer::Shape(3),
+    },
+    Case {
+        text: "dcc 1\nbody .start 0 1\nset 0 (ptr -1)\nreturn\nend\n",
+        answer: Answer::Shape(3),
+    },
+    Case {
+        text: "dcc 1\nbody .start 0 1\nset 0 (ptr 18446744073709551616)\nreturn\nend\n",
+        answer: Answer::Shape(3),
+    },
+    Case {
+        text: "dcc 1\nbody .start 0 1\nset 0 (u1 1)\nreturn\nend\n",
+        answer: Answer::Line(3),
+    },
+    Case {
+        text: "dcc 1\nbody .start 0 1\nset 0 (neg s32 (s32 1) (s32 1))\nreturn\nend\n",
+        answer: Answer::Line(3),
+    },
+    Case {
+        text: "dcc 1\nbody .start 0 1\nset 0 (sh u8 (u8 1) (u8 1))\nreturn\nend\n",
+        answer: Answer::Line(3),
     },
     Case {
         text: "dcc 1\nbody .start 0 1\nset 1 (s32 1)\nreturn\nend\n",

@@ -3,7 +3,7 @@ use crate::answers::{Answer, answer_to, faults_at, printed_again};
 use crate::examples::{EMPTY_FUNCTION, RESULT, SET};
 use std::test::Fail;
 
-// Each kind, operator and bound, a function without a body, and a result that isn't kept.
+// Each bound of a number, a function without a body, and a result that isn't kept.
 const EDGES: &str = "dcc 1
 function h void
 function k u64 u64 s32
@@ -29,7 +29,41 @@ return (s32 0)
 end
 ";
 
-const TEXTS: [&str; 4] = [EMPTY_FUNCTION, SET, RESULT, EDGES];
+// Each kind as a result, a parameter and the kind of a constant at its ends, and each operator.
+const KINDS: &str = "dcc 1
+function a bool s8 u8
+function b s8 s16 u16
+function c u8 s32 u32
+function d s16 s64 u64
+function e u16 ptr bool
+function f s32
+function g u32
+function h s64
+function i u64
+function j ptr
+body .start 0 2
+draw 0 bool
+draw 0 ptr
+store s8 (obj 1) (add s8 (s8 -128) (s8 127))
+store u8 (obj 1) (sub u8 (u8 0) (u8 255))
+init s16 (obj 1) (mul s16 (s16 -32768) (s16 32767))
+init u16 (obj 1) (div u16 (u16 0) (u16 65535))
+set 1 (rem s32 (s32 -2147483648) (s32 2147483647))
+set 1 (shl u32 (u32 0) (u32 4294967295))
+set 1 (shr s64 (s64 -9223372036854775808) (s64 9223372036854775807))
+set 1 (and u64 (u64 0) (u64 18446744073709551615))
+set 1 (or bool (bool 0) (bool 1))
+set 1 (xor bool (load bool (obj 1)) (load u16 (obj 1)))
+require (lt s8 (load s8 (obj 1)) (load s16 (obj 1)))
+require (le u8 (load u8 (obj 1)) (load u32 (obj 1)))
+require (gt s64 (load s64 (obj 1)) (load s32 (obj 1)))
+require (ge u64 (load u64 (obj 1)) (reg 1))
+require (eq ptr (ptr 0) (ptr 18446744073709551615))
+return (ne ptr (load ptr (obj 1)) (ptr 0))
+end
+";
+
+const TEXTS: [&str; 5] = [EMPTY_FUNCTION, SET, RESULT, EDGES, KINDS];
 
 #[test]
 fn texts(rt: HostRuntime) -> Result<(), Fail> {

@@ -2,7 +2,7 @@
 use Rattle.std.proofs.Common.{◌≡◌, ℕ, zero, suc, ◌<◌, ◌%◌, ℤ, List, [], ◌∷◌, ◌++◌, length, map, Option, Some, None, refl, ap, sym, ◌∙◌, arith, append_assoc, append-nil, length-append}
 use Rattle.std.specs.Prelude.{Result, Ok, Err, IsErr, IfSome}
 use Rattle.std.proofs.lemmas.List.{map-append}
-use Rattle.dc_core.specs.declared.number.NumKind.TheVariants.{S32}
+use Rattle.dc_num.specs.declared.kind.NumKind.TheVariants.{S32}
 use Rattle.dc_core.specs.Event.{Event, Draw, Create}
 use Rattle.dc_core.specs.Run.{Note, Did}
 use Rattle.dc_core.specs.Choices.{Drawn, Drew, Dry, Draws, ◌>>=◌, bind, give, tell, draw, draw_bytes, draw_value, after}

@@ -1,6 +1,6 @@
 // What a run draws: numbers of a chooser, each told to a watch and kept.
 ghost use Rattle.std.specs.Prelude.{◌≡◌, ◌<◌, ◌%◌, ◌^◌, IfOk, IfSome};
-ghost use Rattle.dc_core.specs.Number.{bits_of, IsValue};
+ghost use Rattle.dc_num.specs.Kinds.{bits_of, IsValue};
 ghost use Rattle.dc_core.specs.Choices.{draw as drawn_number, draw_bytes as drawn_bytes, draw_value as drawn_value};
 ghost use Rattle.dc_core.specs.Entry.{draw_arguments as drawn_arguments};
 ghost use Rattle.dc_world.specs.Told.{supply};
@@ -8,9 +8,9 @@ ghost use Rattle.dc_world.specs.Log.{hearing};
 ghost use Rattle.dc_world.specs.Drawing.{IsDrawing};
 
 use crate::log::Log;
-use crate::number::convert;
 use dc_choice::{Chooser, Watch};
 use dc_core::NumKind;
+use dc_num::convert;
 use dc_text::Event;
 use std::alloc::{AllocError, Global};
 
@@ -52,10 +52,7 @@ pub fn draw<C: Chooser, W: Watch>(
 fn values(kind: NumKind) -> u128
     ensures { result ≡ 2 ^ bits_of kind }
 {
-    match kind {
-        NumKind::S32 => 1 << 32,
-        NumKind::U64 => 1 << 64,
-    }
+    kind.modulus() as u128
 }
 
 /// Draws a value of the kind.

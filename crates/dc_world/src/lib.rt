@@ -14,7 +14,7 @@ pub use draws::{draw, draw_arguments, draw_bytes, draw_value};
 pub use entry::{static_objects, with_outside};
 pub use log::Log;
 pub use memory::{Memory, object_number, offset};
-pub use number::{compute, convert, natural_bits, size};
+pub use number::{compute, size};
 pub use object::{ObjKind, Object};
 pub use report::{End, RunReport, Which};
 pub use sets::{Range, WriteSet};

@@ -4,9 +4,10 @@ ghost use Rattle.dc_core.specs.Memory.{object_of, offset_of, object_at, update, 
 ghost use Rattle.dc_world.specs.View.{object_view, objects_view, memory_view};
 ghost use Rattle.dc_world.specs.Stored.{IsStored};
 
-use crate::number::{convert, natural_bits, size};
+use crate::number::size;
 use crate::object::Object;
 use dc_core::NumKind;
+use dc_num::{bits, convert};
 use sqlite_items::at;
 use std::alloc::{AllocError, Global};
 
@@ -127,12 +128,7 @@ impl Memory {
         if !self.is_inside(pointer, len) {
             return false;
         }
-        self.put_bits(
-            object_number(pointer),
-            offset(pointer),
-            len,
-            natural_bits(kind, z),
-        );
+        self.put_bits(object_number(pointer), offset(pointer), len, bits(kind, z));
         true
     }
 

@@ -1,8 +1,11 @@
-// The values of the kinds of numbers, and what operators make of them.
-ghost use Rattle.std.specs.Prelude.{◌≡◌, ◌<◌, ◌≤◌, ◌^◌, ◌-◌, pos, Some};
-ghost use Rattle.dc_core.specs.Number.{bits_of, size_of, is_signed as is_signed_kind, low_of, high_of, IsValue, is_value, bits as bits_in, value_of_bits, converted, settled, truth as truth_of, computed};
+// How many bytes values take, and what operators make of values of any kind.
+ghost use Rattle.std.specs.Prelude.{◌≡◌, ◌≤◌};
+ghost use Rattle.dc_num.specs.Kinds.{IsValue};
+ghost use Rattle.dc_num.specs.Operators.{IsRight, is_equality as is_equality_operator};
+ghost use Rattle.dc_core.specs.Number.{size_of, computed};
 
 use dc_core::{BinOp, NumKind};
+use dc_num::binary;
 
 /// How many bytes a value of the kind takes.
 pub fn size(kind: NumKind) -> u64
@@ -10,112 +13,31 @@ pub fn size(kind: NumKind) -> u64
     ensures few { result ≤ 8 }
 {
     match kind {
-        NumKind::S32 => 4,
-        NumKind::U64 => 8,
+        NumKind::Bool | NumKind::S8 | NumKind::U8 => 1,
+        NumKind::S16 | NumKind::U16 => 2,
+        NumKind::S32 | NumKind::U32 => 4,
+        NumKind::S64 | NumKind::U64 | NumKind::Ptr => 8,
     }
 }
 
-// Whether the kind has negative values.
-fn is_signed(kind: NumKind) -> bool
-    ensures { result ≡ is_signed_kind kind }
+// Whether the operator tests for equality.
+fn is_equality(op: BinOp) -> bool
+    ensures { result ≡ is_equality_operator op }
 {
-    matches!(kind, NumKind::S32)
+    matches!(op, BinOp::Eq | BinOp::Ne)
 }
 
-// The number of all values of the kind.
-fn modulus(kind: NumKind) -> i128
-    ensures { result ≡ pos (2 ^ bits_of kind) }
-{
-    match kind {
-        NumKind::S32 => 1 << 32,
-        NumKind::U64 => 1 << 64,
-    }
-}
-
-// The least value of the kind.
-fn low(kind: NumKind) -> i128
-    ensures { result ≡ low_of kind }
-{
-    match kind {
-        NumKind::S32 => i32::MIN as i128,
-        NumKind::U64 => 0,
-    }
-}
-
-// The greatest value of the kind.
-fn high(kind: NumKind) -> i128
-    ensures { result ≡ high_of kind }
-{
-    match kind {
-        NumKind::S32 => i32::MAX as i128,
-        NumKind::U64 => u64::MAX as i128,
-    }
-}
-
-/// The bits that the number has as a value of the kind.
-#[tactic(auto, unfolding(dc_core::specs::Number::bits))]
-pub fn natural_bits(kind: NumKind, z: i128) -> u64
-    ensures { result ≡ bits_in kind z }
-{
-    z.rem_euclid(modulus(kind)) as u64
-}
-
-// The value of the kind that the bits spell.
-fn value(kind: NumKind, bits: u64) -> i128
-    ensures { result ≡ value_of_bits kind bits }
-{
-    let value = bits as i128;
-    if is_signed(kind) && high(kind) < value {
-        value - modulus(kind)
-    } else {
-        value
-    }
-}
-
-/// The number as a value of the kind.
-#[tactic(auto, unfolding(dc_core::specs::Number::converted))]
-pub fn convert(kind: NumKind, z: i128) -> i128
-    ensures value { result ≡ converted kind z }
-    ensures valued { IsValue kind result }
-{
-    value(kind, natural_bits(kind, z))
-}
-
-// The value of a result: an unsigned one wraps, and a signed one that doesn't fit has none.
-fn settle(kind: NumKind, z: i128) -> Option<i128>
-    ensures { result ≡ settled kind z }
-{
-    if is_signed(kind) {
-        if z < low(kind) || high(kind) < z {
-            None
-        } else {
-            Some(z)
-        }
-    } else {
-        Some(convert(kind, z))
-    }
-}
-
-// The int that a comparison gives.
-fn truth(holds: bool) -> i128
-    ensures { result ≡ truth_of holds }
-{
-    if holds { 1 } else { 0 }
-}
-
-/// What an operator makes of two values of a kind.
+/// What an operator makes of two values of a kind; the count of a shift is any number. There is none where C leaves the
+/// value undefined (C11 6.5.5 to 6.5.12), nor of pointers, unless they are tested for equality.
 #[tactic(auto, unfolding(dc_core::specs::Number::computed))]
 pub fn compute(op: BinOp, kind: NumKind, a: i128, b: i128) -> Option<i128>
     requires left { IsValue kind a }
-    requires right { IsValue kind b }
+    requires right { IsRight op kind b }
     ensures { result ≡ computed op kind a b }
 {
-    match op {
-        BinOp::Add => settle(kind, a + b),
-        BinOp::Sub => settle(kind, a - b),
-        BinOp::Lt => Some(truth(a < b)),
-        BinOp::Le => Some(truth(a <= b)),
-        BinOp::Eq => Some(truth(a == b)),
-        BinOp::Ne => Some(truth(a != b)),
+    if kind.is_pointer() && !is_equality(op) {
+        None
+    } else {
+        binary(op, kind, a, b)
     }
 }

@@ -1,8 +1,8 @@
 -- Reading of expressions. The names are those declared so far, and n of them are variables.
 use Rattle.std.specs.Prelude.{ℕ, ◌-◌, pos, Bool, ◌&&◌, ◌==◌, nat_lt, List, [], ◌∷◌, Option, None, Some, if◌then◌else◌, codes}
 use Rattle.std.specs.List.{position}
-use Rattle.dc_core.specs.declared.number.BinOp.{BinOp}
-use Rattle.dc_core.specs.declared.number.BinOp.TheVariants.{Add, Sub, Lt, Le, Eq, Ne}
+use Rattle.dc_num.specs.declared.operators.BinOp.{BinOp}
+use Rattle.dc_num.specs.declared.operators.BinOp.TheVariants.{Add, Sub, Lt, Le, Eq, Ne}
 use Rattle.dc_core.specs.Program.{Expr, Literal, Variable, Parameter, ReturnValue, Binary}
 use Rattle.dc_text.specs.Words.{same}
 use Rattle.dc_form.specs.Read.Cursor.{front, tail}

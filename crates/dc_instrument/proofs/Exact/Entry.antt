@@ -3,8 +3,9 @@ use Rattle.std.proofs.Common.{◌≡◌, ℕ, zero, suc, ◌+◌, ◌%◌, ◌^�
 use Rattle.std.specs.Prelude.{slice_get, slice_set, replicate, map, All, ◌&&◌}
 use Rattle.std.specs.Option.{option_map}
 use Rattle.std.proofs.lemmas.List.Elements.{All-head, All-tail}
-use Rattle.dc_core.specs.declared.number.NumKind.TheVariants.{S32}
-use Rattle.dc_core.specs.Number.{IsValue, converted}
+use Rattle.dc_num.specs.declared.kind.NumKind.TheVariants.{S32}
+use Rattle.dc_num.specs.Kinds.{IsValue}
+use Rattle.dc_num.specs.Conversions.{converted}
 use Rattle.dc_core.specs.Assertion.{postcondition_name}
 use Rattle.dc_core.specs.Event.{Event, End}
 use Rattle.dc_core.specs.Event as end
@@ -192,7 +193,7 @@ draws_follow g name i (suc n) done r (number ∷ choices) s ei ec er =
               ∙ ap (before told) h.by
               ∙ ap (λ l. Next (told ++ h.notes) (record s { regs = map Some l ++ replicate r (Some (pos 0)); world = record s.world { choices = rest } })) (append_assoc done (v ∷ []) arguments);
           same = h.same;
-          ints = (IsValue-converted (pos (number % 2 ^ 32)), h.ints);
+          ints = (IsValue-converted S32 (pos (number % 2 ^ 32)), h.ints);
           count = ap suc h.count;
         }
     by (Dry events) h =

@@ -1,7 +1,7 @@
 -- What the machine does where the source's run does something.
 use Rattle.std.proofs.Common.{◌≡◌, ℕ, ◌+◌, ◌≤◌, Bool, true, false, List, ◌++◌, Option, Some, None, ap, sym, ◌∙◌, arith, ℤ}
-use Rattle.dc_core.specs.declared.number.NumKind.TheVariants.{S32}
-use Rattle.dc_core.specs.Number.{IsValue}
+use Rattle.dc_num.specs.declared.kind.NumKind.TheVariants.{S32}
+use Rattle.dc_num.specs.Kinds.{IsValue}
 use Rattle.dc_core.specs.Event.{End}
 use Rattle.dc_core.specs.World.{World}
 use Rattle.dc_core.specs.Contract.{WriteSet}

@@ -3,8 +3,9 @@ use Rattle.std.proofs.Common.{◌≡◌, ℕ, zero, suc, ◌+◌, ◌<◌, ◌�
 use Rattle.std.specs.Prelude.{slice_get, slice_set, replicate, map, ◌⊎◌}
 use Rattle.std.specs.Option.{option_map}
 use Rattle.std.proofs.lemmas.Bool.Decides.{nat_tests}
-use Rattle.dc_core.specs.declared.number.NumKind.TheVariants.{S32}
-use Rattle.dc_core.specs.Number.{IsValue, converted}
+use Rattle.dc_num.specs.declared.kind.NumKind.TheVariants.{S32}
+use Rattle.dc_num.specs.Kinds.{IsValue}
+use Rattle.dc_num.specs.Conversions.{converted}
 use Rattle.dc_core.specs.Event.{End, Create}
 use Rattle.dc_core.specs.Event as end
 use Rattle.dc_core.specs.Memory.{encoded, store, start_of, object_limit}

@@ -2,8 +2,9 @@
 use Rattle.std.proofs.Common.{◌≡◌, ℕ, zero, suc, ◌+◌, ◌<◌, ◌≤◌, Bool, true, false, List, [], ◌∷◌, ◌++◌, length, Option, Some, None, refl, ap, sym, ◌∙◌, subst, arith, ℤ, append-nil, inl, inr}
 use Rattle.std.specs.Prelude.{◌⊎◌, slice_set, map, if◌then◌else◌, All}
 use Rattle.std.proofs.lemmas.List.Elements.{All-head, All-tail}
-use Rattle.dc_core.specs.declared.number.NumKind.TheVariants.{S32}
-use Rattle.dc_core.specs.Number.{IsValue, converted}
+use Rattle.dc_num.specs.declared.kind.NumKind.TheVariants.{S32}
+use Rattle.dc_num.specs.Kinds.{IsValue}
+use Rattle.dc_num.specs.Conversions.{converted}
 use Rattle.dc_core.specs.Assertion.{assigns_name}
 use Rattle.dc_core.specs.Event.{End, Write}
 use Rattle.dc_core.specs.Event as end

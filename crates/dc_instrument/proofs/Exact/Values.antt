@@ -2,18 +2,18 @@
 use Rattle.std.proofs.Common.{◌≡◌, ℕ, suc, ◌+◌, ◌<◌, ◌≤◌, ◌^◌, Bool, true, false, List, length, Option, Some, None, refl, ap, sym, ◌∙◌, arith, ℤ, pos}
 use Rattle.std.specs.Prelude.{slice_get}
 use Rattle.std.specs.Option.{option_map}
-use Rattle.dc_core.specs.declared.number.NumKind.TheVariants.{S32}
-use Rattle.dc_core.specs.declared.number.BinOp.{BinOp}
-use Rattle.dc_core.specs.Number.{converted, computed}
+use Rattle.dc_num.specs.declared.kind.NumKind.TheVariants.{S32}
+use Rattle.dc_num.specs.declared.operators.BinOp.{BinOp}
+use Rattle.dc_core.specs.Number.{computed}
 use Rattle.dc_core.specs.Memory.{Memory, start_of, load}
 use Rattle.dc_core.specs.Program.{Expr, Literal, Variable, Parameter, ReturnValue, Binary, Program}
 use Rattle.dc_core.specs.Term.{Register, Load}
 use Rattle.dc_core.specs.Value.{Scope, Body, value, place, both, variable_place, parameter_value, result_value, load_int}
 use Rattle.dc_core.specs.Sound.{Stands, IsLvalue, IsTarget}
-use Rattle.dc_core.proofs.Numbers.{HasInt, HasInt-computed, converted-value}
+use Rattle.dc_core.proofs.Numbers.{HasInt, HasValue-computed, converted-value}
 use Rattle.dc_core.proofs.Objects.{start_of-small, HasInt-load}
-use Rattle.dc_goto.specs.Machine.{Registers, term_value, natural_value, as_natural, load_from, operated}
-use Rattle.dc_goto.proofs.Values.{as_natural-pos}
+use Rattle.dc_goto.specs.Machine.{Registers, term_value, natural_value, as_natural, load_from, operated, right_operand}
+use Rattle.dc_goto.proofs.Values.{as_natural-pos, right_operand-value}
 use Rattle.dc_instrument.specs.Lowering.{term_of, place_term, parameter_term, result_term}
 use Rattle.dc_instrument.specs.declared.places.Places.{Places}
 use Rattle.dc_instrument.specs.declared.places.Places.TheVariants as places
@@ -35,19 +35,19 @@ both_same : (op : BinOp) (a b a' b' : Option ℤ) → SameInt a a' → SameInt b
 both_same op a b a' b' s t =
     record {
       same = by a b s.int t.int ∙ ap (λ x. operated op S32 x b) s.same ∙ ap (λ y. operated op S32 a' y) t.same;
-      int = made a b;
+      int = made a b s.int t.int;
     }
   where
     by : (a b : Option ℤ) → HasInt a → HasInt b → both op a b ≡ operated op S32 a b
     by None b h k = refl
     by (Some x) None h k = refl
     by (Some x) (Some y) h k =
-        sym (ap (λ z. computed op S32 z (converted S32 y)) (converted-value x h) ∙ ap (λ z. computed op S32 x z) (converted-value y k))
+        sym (ap (λ z. computed op S32 z (right_operand op S32 y)) (converted-value x h) ∙ ap (λ z. computed op S32 x z) (right_operand-value op y k))
 
-    made : (a b : Option ℤ) → HasInt (both op a b)
-    made None b = tt
-    made (Some x) None = tt
-    made (Some x) (Some y) = HasInt-computed op x y
+    made : (a b : Option ℤ) → HasInt a → HasInt b → HasInt (both op a b)
+    made None b h k = tt
+    made (Some x) None h k = tt
+    made (Some x) (Some y) h k = HasValue-computed op S32 x y h k
 
 -- the value of an expression
 pub value_same : (p : Program) (result : Bool) (scope : Scope) (at : Places) (regs : Registers) (memory : Memory) (e : Expr)

@@ -4,8 +4,8 @@ use Rattle.std.specs.Prelude.{All, codes, nat_lt, not, ◌==◌, ◌||◌, if◌
 use Rattle.std.specs.List.{list_all, AllByRecursion}
 use Rattle.std.proofs.lemmas.Bool.Decides.{nat_tests}
 use Rattle.std.proofs.lemmas.List.Elements.{All-head, All-tail}
-use Rattle.dc_core.specs.declared.number.NumKind.{NumKind}
-use Rattle.dc_core.specs.declared.number.NumKind.TheVariants.{S32}
+use Rattle.dc_num.specs.declared.kind.NumKind.{NumKind}
+use Rattle.dc_num.specs.declared.kind.NumKind.TheVariants.{S32}
 use Rattle.dc_core.specs.Assertion.{assigns_name, postcondition_name}
 use Rattle.dc_core.specs.Program.{Expr, Stmt, Assign, Function, Program}
 use Rattle.dc_core.specs.Program as program

@@ -1,5 +1,5 @@
 use Rattle.std.proofs.Common.{◌≡◌, ◌+◌, ◌-◌, ◌++◌, ◌∷◌, [], arith, to_z, of_z}
-use Rattle.dc_core.specs.declared.number.NumKind.TheVariants.{S32}
+use Rattle.dc_num.specs.declared.kind.NumKind.TheVariants.{S32}
 use Rattle.dc_core.specs.Choices.{draw_value}
 use Rattle.dc_core.specs.Entry.{draw_arguments}
 use Rattle.dc_world.specs.Drawing.{behind}

@@ -1,5 +1,6 @@
 use Rattle.std.proofs.Common.{pos, ◌^◌, refl}
-use Rattle.dc_core.specs.Number.{bits_of, converted}
+use Rattle.dc_num.specs.Kinds.{bits_of}
+use Rattle.dc_num.specs.Conversions.{converted}
 use Rattle.dc_core.specs.Choices.{draw, draw_value, give}
 use Rattle.dc_world.proofs.Drawing.{resumed_none, resumed_cut, drawing_cut}
 use Rattle.dc_world.proofs.draws.draw_value.Goals as goal

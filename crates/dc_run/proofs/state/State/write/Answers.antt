@@ -1,7 +1,7 @@
 use Rattle.std.proofs.Common.{◌≡◌, arith, refl, Some}
 use Rattle.std.proofs.lemmas.Int.{to_z-of_z}
 use Rattle.dc_core.specs.Memory.{store}
-use Rattle.dc_core.specs.declared.number.NumKind.TheVariants.{S32}
+use Rattle.dc_num.specs.declared.kind.NumKind.TheVariants.{S32}
 use Rattle.dc_world.specs.Sets.{set_view}
 use Rattle.dc_world.specs.View.{memory_view}
 use Rattle.dc_run.specs.View.{state_view}
