@@ -1,9 +1,11 @@
-// Times calls that no command reaches yet: `dcc_bench lex FILE`, `dcc_bench read_expr FILE`, `dcc_bench read_unit FILE` and
-// `dcc_bench memory COUNT`.
+// Times calls that no command reaches yet: `dcc_bench lex FILE`, `dcc_bench read_expr FILE`, `dcc_bench read_unit FILE`,
+// `dcc_bench memory COUNT` for so many stores and loads, and `dcc_bench scopes COUNT` for so many names.
 #![tactic(auto)]
 
 mod memory;
+mod names;
 
+use crate::names::names_found;
 use dc_lexer::{Lex, Tokens, lex};
 use dc_read_expr::{Syntax, read_expr};
 use dc_read_unit::read_unit;
@@ -85,6 +87,11 @@ fn main(rt: HostRuntime) -> Result<ExitCode, anyhow::Error> {
     if word.as_str() == "memory" {
         let line = memory::answer(alloc, subject.as_str().parse()?)?;
         println!(rt; "{line}")?;
+        return Ok(ExitCode::from(0));
+    }
+    if word.as_str() == "scopes" {
+        let found = names_found(alloc, subject.as_str().parse()?)?;
+        println!(rt; "names {found}")?;
         return Ok(ExitCode::from(0));
     }
     let Some(call) = call_of(word.as_str()) else {

@@ -1,0 +1,4 @@
+pub mod Parameters
+pub mod Lookups
+pub mod Differing
+pub mod Scoping

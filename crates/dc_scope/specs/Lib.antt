@@ -1,0 +1,5 @@
+pub mod Entities
+pub mod SameTypes
+pub mod Scopes
+pub mod Declaring
+pub mod Codes
