@@ -4,7 +4,9 @@ use Rattle.std.specs.Prelude.{map, flat_map, if◌then◌else◌}
 use Rattle.dc_core.specs.Assertion.{postcondition_name}
 use Rattle.dc_core.specs.Event.{Event, End, Create, Check, Call, Return as CameBack}
 use Rattle.dc_core.specs.Event as end
-use Rattle.dc_core.specs.Memory.{Memory, object_of, offset_of, start_of, store}
+use Rattle.dc_memory.specs.Objects.{Memory}
+use Rattle.dc_memory.specs.Places.{object_of, offset_of, start_of}
+use Rattle.dc_memory.specs.Access.{store}
 use Rattle.dc_core.specs.World.{World, is_full, next_object, kill_events, left}
 use Rattle.dc_core.specs.Program.{Expr, Stmt, Assign, Return, Function, Program}
 use Rattle.dc_core.specs.Value.{Scope, Body, Clause, value, place}

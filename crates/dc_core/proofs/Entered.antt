@@ -11,7 +11,11 @@ use Rattle.dc_num.proofs.Values.{bits-below}
 use Rattle.dc_core.specs.Choices.{Drawn, Drew, Dry, Draws, ◌>>=◌, after, bind, give, tell, draw, draw_bytes, draw_value}
 use Rattle.dc_core.specs.Entry.{static_objects, live_object, dead_object, outside_object, outside_objects, with_outside, draw_values, Entered, entry}
 use Rattle.dc_core.specs.Event.{Event, Create}
-use Rattle.dc_core.specs.Memory.{ObjKind, Function, Static, Heap, Stack, Object, Memory, holding, function_object, object_limit, size_limit}
+use Rattle.dc_memory.specs.declared.object.ObjKind.{ObjKind}
+use Rattle.dc_memory.specs.declared.object.ObjKind.TheVariants.{Function, Static, Heap, Stack}
+use Rattle.dc_memory.specs.declared.object.Object.{Object}
+use Rattle.dc_memory.specs.Objects.{Memory, object_limit, size_limit, holding}
+use Rattle.dc_core.specs.Objects.{function_object}
 use Rattle.dc_core.specs.WellFormed.{AreBytes, AreStatics, IsOutside, IsWellFormed, AreValues, sort_of, drawn_bytes, live_choices, outside_choices, value_choices, entry_choices, Gives}
 use Rattle.dc_core.proofs.Converted.{converted-bits}
 

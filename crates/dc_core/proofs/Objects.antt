@@ -1,9 +1,16 @@
 -- Objects behind a memory, and what is loaded and stored there.
 use Rattle.std.proofs.Common.{◌≡◌, ℕ, suc, ◌^◌, ◌<◌, ◌≤◌, Bool, true, false, [], ◌∷◌, ◌++◌, length, Some, None, refl, ap, arith, ℤ}
 use Rattle.std.specs.Prelude.{replicate, if◌then◌else◌}
-use Rattle.dc_num.specs.declared.kind.NumKind.TheVariants.{S32}
-use Rattle.dc_num.specs.Conversions.{converted}
-use Rattle.dc_core.specs.Memory.{Object, Memory, Stack, holding, start_of, object_of, offset_of, object_at, update, changed, put_at, with_bytes, holds_range, is_inside, encoded, load, store}
+use Rattle.dc_memory.specs.declared.kind.MemKind.TheVariants.{S32}
+use Rattle.dc_memory.specs.declared.object.Object.{Object}
+use Rattle.dc_memory.specs.declared.object.ObjKind.TheVariants.{Stack}
+use Rattle.dc_memory.specs.Conversions.{bits, converted}
+use Rattle.dc_memory.specs.Objects.{Memory, object_at, update, changed, holding}
+use Rattle.dc_memory.specs.Places.{start_of, object_of, offset_of, put_at, with_bytes, holds_range, is_inside}
+use Rattle.dc_memory.specs.Encoding.{encoded}
+use Rattle.dc_memory.specs.Access.{load, store}
+use Rattle.dc_num.specs.declared.kind.NumKind.TheVariants as num
+use Rattle.dc_num.specs.Conversions.{bits as num_bits, converted as num_converted}
 use Rattle.dc_core.proofs.Numbers.{HasInt, IsValue-converted}
 
 pub object_of-start_of : (n : ℕ) → object_of (start_of n) ≡ n
@@ -51,11 +58,16 @@ store-new memory z =
         rw (eo, ef, object_at-new memory (holding Stack (replicate 4 0)))
         (ap Some (update-new memory (holding Stack (replicate 4 0)) (with_bytes 0 (encoded S32 z))))
 
+-- conversion is the same for numbers in memory
+converted-int : (z : ℤ) → converted S32 z ≡ num_converted num.S32 z
+unfolding converted bits num_converted num_bits
+converted-int z = refl
+
 -- what is loaded is an int
 pub HasInt-load : (pointer : ℕ) (memory : Memory) → HasInt (load S32 pointer memory)
 unfolding load
 HasInt-load pointer memory = by (is_inside memory pointer 4) _
   where
     by : (b : Bool) (z : ℤ) → HasInt (if b then Some (converted S32 z) else None)
-    by true z = IsValue-converted S32 z
+    by true z = rw (converted-int z) (IsValue-converted num.S32 z)
     by false z = tt

@@ -2,7 +2,8 @@
 use Rattle.std.specs.Prelude.{ℕ, suc, ◌+◌, Bool, true, false, ◌&&◌, ◌||◌, not, nat_le, nat_lt, nat_eq, ℤ, pos, List, [], ◌∷◌, ◌++◌, length, Option, None, Some, if◌then◌else◌}
 use Rattle.std.specs.Ordering.{int_eq}
 use Rattle.dc_core.specs.Assertion.{assigns_name}
-use Rattle.dc_core.specs.Memory.{Memory, is_inside, object_of, offset_of}
+use Rattle.dc_memory.specs.Objects.{Memory}
+use Rattle.dc_memory.specs.Places.{is_inside, object_of, offset_of}
 use Rattle.dc_core.specs.Program.{Expr}
 use Rattle.dc_core.specs.Value.{Scope, value, place}
 

@@ -4,7 +4,11 @@ use Rattle.dc_num.specs.declared.kind.NumKind.{NumKind}
 use Rattle.dc_num.specs.declared.kind.NumKind.TheVariants.{S32}
 use Rattle.dc_core.specs.Event.{Create}
 use Rattle.dc_core.specs.Choices.{Draws, ◌>>=◌, give, tell, draw, draw_bytes, draw_value}
-use Rattle.dc_core.specs.Memory.{ObjKind, Object, Memory, Static, Heap, Stack, dead, holding, function_object, object_limit, size_limit}
+use Rattle.dc_memory.specs.declared.object.ObjKind.{ObjKind}
+use Rattle.dc_memory.specs.declared.object.ObjKind.TheVariants.{Static, Heap, Stack}
+use Rattle.dc_memory.specs.declared.object.Object.{Object}
+use Rattle.dc_memory.specs.Objects.{Memory, object_limit, size_limit, holding}
+use Rattle.dc_core.specs.Objects.{dead, function_object}
 use Rattle.dc_core.specs.Program.{Program}
 
 -- file-scope variables of these sizes, each byte drawn

@@ -2,9 +2,11 @@ pub mod Assertion
 pub mod Number
 pub mod Program
 pub mod Term
+pub mod Whole
+pub mod First
 pub mod View
 pub mod Event
-pub mod Memory
+pub mod Objects
 pub mod Choices
 pub mod World
 pub mod Entry

@@ -1,4 +1,5 @@
--- The typed program as plain data. Variables and parameters are named by their numbers, from 0.
+-- A program of the first form, as plain data: what the runs take so far. Variables and parameters are named by their
+-- numbers, from 0.
 use Rattle.std.specs.Prelude.{ℕ, ℤ, Bool, List}
 use Rattle.dc_num.specs.declared.operators.BinOp.{BinOp}
 

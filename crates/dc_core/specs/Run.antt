@@ -1,11 +1,14 @@
 -- The runs of a program: one recursion over statements serves the plain run, whose acts are noted, and the contract
 -- run, whose acts are judged.
 use Rattle.std.specs.Prelude.{ℕ, zero, suc, ◌-◌, ℤ, Bool, true, false, List, [], ◌∷◌, ◌++◌, length, map, flat_map, Option, None, Some, if◌then◌else◌}
-use Rattle.dc_num.specs.declared.kind.NumKind.TheVariants.{S32}
 use Rattle.dc_core.specs.Assertion.{postcondition_name}
 use Rattle.dc_core.specs.Event.{Event, End, Create, Check, Call, Return as CameBack, Write}
 use Rattle.dc_core.specs.Event as end
-use Rattle.dc_core.specs.Memory.{Memory, object_of, offset_of, start_of, encoded, store}
+use Rattle.dc_memory.specs.declared.kind.MemKind.TheVariants.{S32}
+use Rattle.dc_memory.specs.Objects.{Memory}
+use Rattle.dc_memory.specs.Places.{object_of, offset_of, start_of}
+use Rattle.dc_memory.specs.Encoding.{encoded}
+use Rattle.dc_memory.specs.Access.{store}
 use Rattle.dc_core.specs.Choices.{Drawn, Drew, Dry}
 use Rattle.dc_core.specs.World.{World, start_world, is_full, next_object, with_local, left, kill_events}
 use Rattle.dc_core.specs.Entry.{entry_memory, draw_arguments}

@@ -3,7 +3,10 @@ use Rattle.std.specs.Prelude.{ℕ, suc, ℤ, List, Option, None, Some, slice_get
 use Rattle.dc_num.specs.declared.kind.NumKind.TheVariants.{S32}
 use Rattle.dc_num.specs.declared.operators.BinOp.{BinOp}
 use Rattle.dc_core.specs.Number.{computed}
-use Rattle.dc_core.specs.Memory.{Memory, start_of, load}
+use Rattle.dc_memory.specs.declared.kind.MemKind.TheVariants as mem
+use Rattle.dc_memory.specs.Objects.{Memory}
+use Rattle.dc_memory.specs.Places.{start_of}
+use Rattle.dc_memory.specs.Access.{load}
 use Rattle.dc_core.specs.Program.{Expr, Literal, Variable, Parameter, ReturnValue, Binary}
 
 -- where an expression stands: in a body, by the places of the parameters' objects; or in a clause, by the arguments
@@ -18,7 +21,7 @@ variable_place k = start_of (suc (suc k))
 
 abbrev pub load_int : Memory → Option ℕ → Option ℤ
 load_int memory None = None
-load_int memory (Some place) = load S32 place memory
+load_int memory (Some place) = load mem.S32 place memory
 
 abbrev pub parameter_value : Scope → Memory → ℕ → Option ℤ
 parameter_value (Body places) memory k = load_int memory (slice_get places k)
@@ -36,7 +39,7 @@ both op (Some a) (Some b) = computed op S32 a b
 
 abbrev pub value : Scope → Memory → Expr → Option ℤ
 value scope memory (Literal z) = Some z
-value scope memory (Variable k) = load S32 (variable_place k) memory
+value scope memory (Variable k) = load mem.S32 (variable_place k) memory
 value scope memory (Parameter k) = parameter_value scope memory k
 value scope memory ReturnValue = result_value scope
 value scope memory (Binary op a b) = both op (value scope memory a) (value scope memory b)

@@ -1,49 +1,78 @@
--- The values of the code as the plain data that the definitions speak of.
-use Rattle.std.specs.Prelude.{map}
+-- The values of the code as the plain data that the definitions speak of: of the typed program, the program of the first
+-- form that it says.
+use Rattle.std.specs.Prelude.{List, [], ◌∷◌, map, length, false, Option, Some, None}
+use Rattle.std.specs.Option.{option_map}
+use Rattle.dc_core.specs.First.{first_expr, first_form, first_act, first_stmt, first_body, first_range, gives_int}
 use Rattle.dc_core.specs.Program as plain
 use Rattle.dc_core.specs.Term as plain_term
-use Rattle.dc_core.specs.declared.program.Expr.{Expr}
-use Rattle.dc_core.specs.declared.program.Expr.TheFolds.{fold-Expr}
-use Rattle.dc_core.specs.declared.program.Expr.TheOpen.{Expr-F}
-use Rattle.dc_core.specs.declared.program.Stmt.{Stmt}
-use Rattle.dc_core.specs.declared.program.Stmt.TheVariants as stmt
-use Rattle.dc_core.specs.declared.program.Contract.{Contract}
-use Rattle.dc_core.specs.declared.program.Function.{Function}
-use Rattle.dc_core.specs.declared.program.Program.{Program}
 use Rattle.dc_core.specs.declared.term.Term.{Term}
 use Rattle.dc_core.specs.declared.term.Term.TheFolds.{fold-Term}
 use Rattle.dc_core.specs.declared.term.Term.TheOpen.{Term-F}
+use Rattle.dc_layout.specs.Types.{type_view}
+use Rattle.dc_layout.specs.declared.ctype.CType.{CType}
+use Rattle.dc_program.specs.View as whole
+use Rattle.dc_program.specs.declared.contract.Clause.{Clause}
+use Rattle.dc_program.specs.declared.contract.Contract.{Contract}
+use Rattle.dc_program.specs.declared.contract.Target.{Target}
+use Rattle.dc_program.specs.declared.expression.Expr.{Expr}
+use Rattle.dc_program.specs.declared.expression.Form.{Form}
+use Rattle.dc_program.specs.declared.program.Function.{Function}
+use Rattle.dc_program.specs.declared.program.StaticVariable.{StaticVariable}
+use Rattle.dc_program.specs.declared.statement.Stmt.{Stmt}
 
-abbrev pub expr_step : Expr-F plain.Expr → plain.Expr
-expr_step (Expr-F.Literal z) = plain.Literal z
-expr_step (Expr-F.Variable k) = plain.Variable k
-expr_step (Expr-F.Parameter k) = plain.Parameter k
-expr_step Expr-F.ReturnValue = plain.ReturnValue
-expr_step (Expr-F.Binary op a b) = plain.Binary op a b
+abbrev pub form_view : Form → plain.Expr
+form_view f = first_form (whole.form_view f)
 
 abbrev pub expr_view : Expr → plain.Expr
-expr_view = fold-Expr plain.Expr expr_step
+expr_view e = first_expr (whole.expr_view e)
+
+-- an expression that is a statement
+abbrev pub act_view : Expr → plain.Stmt
+act_view e = first_act (whole.expr_view e)
 
 abbrev pub stmt_view : Stmt → plain.Stmt
-stmt_view (stmt.Assign site place value) = plain.Assign site (expr_view place) (expr_view value)
-stmt_view (stmt.Return value) = plain.Return (expr_view value)
+stmt_view s = first_stmt (whole.stmt_view s)
+
+abbrev pub clause_view : Clause → plain.Expr
+clause_view c = expr_view c.condition
+
+abbrev pub target_view : Target → plain.Expr
+target_view t = first_range (whole.range_view t.range)
 
 abbrev pub contract_view : Contract → plain.Contract
 contract_view c =
-    record { requires_ = map expr_view c.requires_; ensures_ = map expr_view c.ensures_; assigns = map expr_view c.assigns }
+    record { requires_ = map clause_view c.required; ensures_ = map clause_view c.ensured; assigns = map target_view c.assigned }
+
+abbrev pub no_clauses : plain.Contract
+no_clauses = record { requires_ = []; ensures_ = []; assigns = [] }
+
+abbrev pub clauses_view : Option Contract → plain.Contract
+clauses_view None = no_clauses
+clauses_view (Some c) = contract_view c
+
+abbrev pub body_view : Option Stmt → List plain.Stmt
+body_view body = first_body (option_map whole.stmt_view body)
 
 abbrev pub function_view : Function → plain.Function
 function_view f =
     record {
       name = f.name;
-      gives_int = f.gives_int;
-      params = f.params;
-      contract = contract_view f.contract;
-      body = map stmt_view f.body;
+      gives_int = gives_int (type_view f.result);
+      params = length f.params;
+      contract = clauses_view f.contract;
+      body = body_view f.body;
     }
 
-abbrev pub program_view : Program → plain.Program
-program_view p = record { statics = p.statics; function = function_view p.function }
+abbrev pub no_function : plain.Function
+no_function = record { name = []; gives_int = false; params = 0; contract = no_clauses; body = [] }
+
+abbrev pub function_in : List Function → plain.Function
+function_in [] = no_function
+function_in (f ∷ functions) = function_view f
+
+-- a program by its functions, of which it has one, and its variables of file scope
+abbrev pub program_view : List Function × (List StaticVariable × List (Option (List CType))) → plain.Program
+program_view p = record { statics = map (λ v. v.name) p.1.0; function = function_in p.0 }
 
 abbrev pub term_step : Term-F plain_term.Term → plain_term.Term
 term_step (Term-F.Constant kind z) = plain_term.Constant kind z

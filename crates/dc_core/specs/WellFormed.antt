@@ -5,7 +5,11 @@ use Rattle.dc_num.specs.declared.kind.NumKind.{NumKind}
 use Rattle.dc_num.specs.Kinds.{IsValue}
 use Rattle.dc_num.specs.Conversions.{bits}
 use Rattle.dc_core.specs.Choices.{Drawn, Drew, Dry}
-use Rattle.dc_core.specs.Memory.{ObjKind, Function, Static, Heap, Stack, Object, Memory, function_object, object_limit, size_limit}
+use Rattle.dc_memory.specs.declared.object.ObjKind.{ObjKind}
+use Rattle.dc_memory.specs.declared.object.ObjKind.TheVariants.{Function, Static, Heap, Stack}
+use Rattle.dc_memory.specs.declared.object.Object.{Object}
+use Rattle.dc_memory.specs.Objects.{Memory, object_limit, size_limit}
+use Rattle.dc_core.specs.Objects.{function_object}
 
 abbrev pub AreBytes : List ℕ → Type 0
 AreBytes bytes = AllByRecursion (λ byte. byte < 256) bytes

@@ -1,7 +1,9 @@
 -- What a run reads and changes: the memory, the choices that are left, and what dies with the running function.
 use Rattle.std.specs.Prelude.{ℕ, suc, Bool, nat_le, List, [], ◌∷◌, ◌++◌, length, map}
 use Rattle.dc_core.specs.Event.{Event, Kill}
-use Rattle.dc_core.specs.Memory.{Memory, Stack, holding, object_limit, kill_all}
+use Rattle.dc_memory.specs.declared.object.ObjKind.TheVariants.{Stack}
+use Rattle.dc_memory.specs.Objects.{Memory, object_limit, holding}
+use Rattle.dc_core.specs.Objects.{kill_all}
 
 pub record World : Type 0 where
   pub memory : Memory

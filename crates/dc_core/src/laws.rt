@@ -1,7 +1,7 @@
 //! Laws over the definitions alone, each a call without effect whose clause states it.
 ghost use Rattle.std.specs.Prelude.{◌≡◌, ◌++◌, ℕ, ℤ, List};
 ghost use Rattle.dc_core.specs.Entry.{entry};
-ghost use Rattle.dc_core.specs.Memory.{Memory};
+ghost use Rattle.dc_memory.specs.Objects.{Memory};
 ghost use Rattle.dc_core.specs.Outcome.{Outcome, IsRun, Tracks, IsExact};
 ghost use Rattle.dc_core.specs.Program.{Program};
 ghost use Rattle.dc_core.specs.Run.{contract_run, plain_report};

@@ -1,11 +1,11 @@
-//! Names, the typed program, expressions of the instruction text, and what the runs of a program are.
+//! Names, expressions of the instruction text, what the runs of a program are, and how the typed program says it.
 #![tactic(auto)]
 
 pub mod laws;
-mod program;
+mod parts;
 mod term;
 
 pub use dc_num::{BinOp, NumKind};
 pub use dc_text::Name;
-pub use program::{Contract, Expr, Function, Program, Stmt};
+pub use parts::{assigned, body, ensured, function, gives_int, parameters, params, required};
 pub use term::Term;

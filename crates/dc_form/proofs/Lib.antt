@@ -8,3 +8,5 @@ pub mod Claused
 pub mod Bodied
 pub mod Sourced
 pub mod Sound
+pub mod Distinct
+pub mod Wholly

@@ -66,11 +66,11 @@ found_there word (name ∷ names) k h = by_test (λ k h. found_there word names 
         let r = again k (f ∙ ap (λ j. Some j) p) in
         let lt = r.0 in (omega arith, r.1)
 
-or_false : (x y : Bool) → (x || y) ≡ false → (x ≡ false) × (y ≡ false)
+pub or_false : (x y : Bool) → (x || y) ≡ false → (x ≡ false) × (y ≡ false)
 or_false true y h = cc
 or_false false y h = (refl, h)
 
-any_append : (p : List ℕ → Bool) (xs ys : List (List ℕ)) → list_any p (xs ++ ys) ≡ false → (list_any p xs ≡ false) × (list_any p ys ≡ false)
+pub any_append : (p : List ℕ → Bool) (xs ys : List (List ℕ)) → list_any p (xs ++ ys) ≡ false → (list_any p xs ≡ false) × (list_any p ys ≡ false)
 any_append p [] ys h = (refl, h)
 any_append p (x ∷ xs) ys h =
     let t = or_false (p x) (list_any p (xs ++ ys)) h in
@@ -80,7 +80,7 @@ any_append p (x ∷ xs) ys h =
 some_same : (x y : List ℕ) → Some x ≡ Some y → x ≡ y
 some_same x y h = cc
 
-new_parts : (names : List (List ℕ)) (name : List ℕ) → is_new names name ≡ true → (is_name name ≡ true) × (list_any (same name) names ≡ false)
+pub new_parts : (names : List (List ℕ)) (name : List ℕ) → is_new names name ≡ true → (is_name name ≡ true) × (list_any (same name) names ≡ false)
 new_parts names name h = let t = and_true (is_name name) (not (list_any (same name) names)) h in (t.0, not_true (list_any (same name) names) t.1)
 
 -- a new name isn't among those before it

@@ -25,7 +25,7 @@ word_is_not_start (b ∷ bytes) e =
     letter_is_no_dot : (b : ℕ) → is_letter b ≡ true → nat_eq b 46 ≡ false
     letter_is_no_dot b l = grind (arith, nat_tests)
 
-new_word : (names : List (List ℕ)) (name : List ℕ) → is_new names name ≡ true → is_word name ≡ true
+pub new_word : (names : List (List ℕ)) (name : List ℕ) → is_new names name ≡ true → is_word name ≡ true
 new_word names name e = first_is_true (is_word name) _ (first_is_true (is_name name) _ e)
 
 -- a declared name is a word

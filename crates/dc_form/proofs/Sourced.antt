@@ -3,8 +3,12 @@ use Rattle.std.proofs.Common.{◌≡◌, ℕ, suc, ◌-◌, Bool, List, [], ◌�
 use Rattle.std.specs.Prelude.{codes, flat_map, Result, Ok, Err, IfOk}
 use Rattle.dc_core.specs.Program as plain
 use Rattle.dc_core.specs.View.{program_view}
-use Rattle.dc_core.specs.declared.program.Program.{Program}
-use Rattle.dc_core.specs.Program.{Expr, Stmt, Contract, Function}
+use Rattle.dc_core.specs.Program.{Expr, Stmt, Contract}
+use Rattle.dc_core.specs.Whole.{Says}
+use Rattle.dc_layout.specs.declared.ctype.CType.{CType}
+use Rattle.dc_program.specs.ProgramView as whole
+use Rattle.dc_program.specs.declared.program.Function.{Function}
+use Rattle.dc_program.specs.declared.program.StaticVariable.{StaticVariable}
 use Rattle.dc_form.specs.Form.{AreNew, Source, Clause, Assignment, IsClause, IsAssignment, IsFormed, IsForm, Spells, static_tokens, result_token, params_tokens, clause_tokens, assignment_tokens, return_tokens, tokens_of, numbered, returned, program_of}
 use Rattle.dc_form.specs.Read.Reading.{Reading, got, then_read}
 use Rattle.dc_form.specs.Read.Signature.{head, head_names, read_head, read_list}
@@ -131,6 +135,6 @@ one_program bytes p q f g =
     some_program : (a b : plain.Program) → Some a ≡ Some b → a ≡ b
     some_program a b h = cc
 
-pub forms_found : {E : Type 0} (r : Result Program E) (bytes : List ℕ) (tokens : List (List ℕ)) → Spells bytes tokens → IfOk r (λ p. read_source tokens ≡ Some (program_view p)) → IfOk r (λ p. IsForm bytes (program_view p))
-forms_found (Ok p) bytes tokens s h = form_found bytes tokens (program_view p) s h
-forms_found (Err e) bytes tokens s h = tt
+pub forms_found : {E : Type 0} (r : Result (List Function × (List StaticVariable × List (Option (List CType)))) E) (bytes : List ℕ) (tokens : List (List ℕ)) → Spells bytes tokens → IfOk r (λ p. read_source tokens ≡ Some (program_view p)) → IfOk r (λ p. Says (program_view p) (whole.program_view p)) → IfOk r (λ program. (p : plain.Program) × IsForm bytes p × Says p (whole.program_view program))
+forms_found (Ok p) bytes tokens s h says = (program_view p, form_found bytes tokens (program_view p) s h, says)
+forms_found (Err e) bytes tokens s h says = tt

@@ -26,6 +26,11 @@ targets_turn names n es next e word all rest after t p q r s y a =
     ∙ ap (λ es. read_targets names n es (tail rest)) (sym r)
     ∙ ap (read_targets names n next) (sym (a ∙ ap (λ t. if t then tail rest else rest) y))
 
+pub targets_stuck : (names : List (List ℕ)) (n : ℕ) (es : List Expr) (word : List ℕ) (all rest : List (List ℕ)) → all ≡ word ∷ rest → target_of names n word ≡ None → read_targets names n es all ≡ None
+targets_stuck names n es word all rest p h =
+    ap (read_targets names n es) p ∙ targets_front names n es word rest
+    ∙ ap (λ o. with_target o (λ e. if same (front rest) (codes ",") then read_targets names n (es ++ e ∷ []) (tail rest) else got (es ++ e ∷ []) rest)) h
+
 -- at most so many turns are left for these tokens
 pub record Left {A : Type 0} (all : Reading A) (tokens : List (List ℕ)) (reads : ℕ → Reading A) : Type 0 where
   pub most : ℕ

@@ -1,55 +1,86 @@
 // The body of a function.
-ghost use Rattle.std.specs.Prelude.{◌≡◌, ◌≤◌, ◌<◌, ◌+◌, ◌++◌, [], ◌∷◌, suc, length, map, IfOk, OnOk, IsErrOf, None};
+ghost use Rattle.std.specs.Prelude.{◌≡◌, ◌≤◌, ◌<◌, ◌+◌, ◌++◌, [], ◌∷◌, suc, length, map, All, IfOk, IfSome, OnOk, IsErrOf, None};
 ghost use Rattle.std.specs.Option.{option_map};
-ghost use Rattle.dc_core.specs.View.{expr_view, stmt_view};
+ghost use Rattle.dc_core.specs.Program as plain;
+ghost use Rattle.dc_core.specs.View.{expr_view, form_view, stmt_view};
+ghost use Rattle.dc_core.specs.Whole.{InBody};
 ghost use Rattle.dc_form.specs.Read.Body as body_spec;
 ghost use Rattle.dc_form.specs.Read.Cursor.{front};
 ghost use Rattle.dc_form.specs.Read.Reading.{got};
+ghost use Rattle.dc_form.specs.Read.Whole.{IsWhole, IsWholeForm, IsWholeStmt};
 ghost use Rattle.dc_form.specs.declared.reader.Form.TheVariants.{NoForm};
 
 use crate::cursor::Cursor;
-use crate::expressions::{place_at, read_sum};
+use crate::expressions::{given, place_at, read_sum};
 use crate::reader::Form;
+use crate::text::Text;
 use crate::tokens::Token;
-use dc_core::{Expr, Stmt};
+use dc_layout::LayKind;
 use dc_names::Names;
+use dc_program::{CType, Expr, Form as ExprForm, Location, Stmt, StmtForm};
 use sqlite_items::Items;
 use std::alloc::{AllocError, Global};
 
 // The variable or parameter of this name.
-fn place_of(names: &Names, statics: u64, word: &Token) -> Option<Expr>
-    ensures { option_map expr_view result ≡ body_spec.place_of names.now statics word.now }
+fn place_of(names: &Names, statics: u64, word: &Token) -> Result<Option<ExprForm>, AllocError>
+    ensures found { IfOk result (λ o. option_map form_view o ≡ body_spec.place_of names.now statics word.now) }
+    ensures whole { IfOk result (λ o. IfSome o (IsWholeForm InBody)) }
 {
     match names.find(word.as_slice()) {
-        Some(number) => place_at(statics, number as u64),
-        None => None,
+        Some(number) => place_at(Text::Body, statics, number as u64),
+        None => Ok(None),
     }
 }
 
 // The variable or parameter in front.
-fn read_place(names: &Names, statics: u64, tokens: &mut Cursor) -> Result<Expr, Form>
+fn read_place(alloc: Global, names: &Names, statics: u64, tokens: &mut Cursor) -> Result<Expr, Form>
     ensures found { IfOk result (λ e. body_spec.read_place names.now statics tokens.old ≡ got (expr_view e) tokens.new) }
+    ensures whole { IfOk result (IsWhole InBody) }
     ensures shorter { OnOk result (length tokens.new < length tokens.old) }
     ensures none { IsErrOf result NoForm → body_spec.read_place names.now statics tokens.old ≡ None }
 {
     let Some(word) = tokens.next() else {
         return Err(Form::NoForm);
     };
-    match place_of(names, statics, word) {
-        Some(place) => Ok(place),
-        None => Err(Form::NoForm),
-    }
+    let place = place_of(names, statics, word)?;
+    given(alloc, place)
 }
 
 // The sum in front, and the `;` behind it.
 fn read_value(alloc: Global, names: &Names, statics: u64, tokens: &mut Cursor) -> Result<Expr, Form>
     ensures found { IfOk result (λ e. body_spec.read_value names.now statics tokens.old ≡ got (expr_view e) tokens.new) }
+    ensures whole { IfOk result (IsWhole InBody) }
     ensures shorter { OnOk result (length tokens.new < length tokens.old) }
     ensures none { IsErrOf result NoForm → body_spec.read_value names.now statics tokens.old ≡ None }
 {
-    let value = read_sum(alloc, names, statics, false, tokens)?;
+    let value = read_sum(alloc, names, statics, Text::Body, tokens)?;
     tokens.expect(b";")?;
     Ok(value)
+}
+
+// The assignment of a value to a place, which has this site.
+fn assignment(alloc: Global, site: u64, place: Expr, value: Expr) -> Result<Stmt, AllocError>
+    ensures found { IfOk result (λ s. stmt_view s ≡ plain.Assign site (expr_view place) (expr_view value)) }
+    ensures whole { IfOk result (λ s. IsWhole InBody place → IsWhole InBody value → IsWholeStmt s) }
+{
+    let location = Location {
+        number: site,
+        line: 0,
+    };
+    let act = Expr::new(
+        alloc,
+        CType::Num(LayKind::S32),
+        ExprForm::Assign(place, value, location),
+    )?;
+    Stmt::new(alloc, StmtForm::Expression(act))
+}
+
+// The return of a value.
+fn giving(alloc: Global, value: Expr) -> Result<Stmt, AllocError>
+    ensures found { IfOk result (λ s. stmt_view s ≡ plain.Return (expr_view value)) }
+    ensures whole { IfOk result (λ s. IsWhole InBody value → IsWholeStmt s) }
+{
+    Stmt::new(alloc, StmtForm::ReturnWith(value))
 }
 
 // The assignment in front, which has this site.
@@ -61,13 +92,15 @@ fn read_assignment(
     tokens: &mut Cursor,
 ) -> Result<Stmt, Form>
     ensures found { IfOk result (λ s. body_spec.read_assignment names.now statics site tokens.old ≡ got (stmt_view s) tokens.new) }
+    ensures whole { IfOk result IsWholeStmt }
     ensures shorter { OnOk result (length tokens.new < length tokens.old) }
     ensures none { IsErrOf result NoForm → body_spec.read_assignment names.now statics site tokens.old ≡ None }
 {
-    let place = read_place(names, statics, tokens)?;
+    let place = read_place(alloc, names, statics, tokens)?;
     tokens.expect(b"=")?;
     let value = read_value(alloc, names, statics, tokens)?;
-    Ok(Stmt::Assign(site, place, value))
+    let statement = assignment(alloc, site, place, value)?;
+    Ok(statement)
 }
 
 // Whether no assignment begins in front.
@@ -79,7 +112,8 @@ fn at_end(tokens: &Cursor) -> bool
 
 // One more statement behind the others.
 fn push(body: &mut Items<Stmt>, statement: Stmt) -> Result<(), AllocError>
-    ensures { OnOk result (map stmt_view body.new ≡ map stmt_view body.old ++ stmt_view statement ∷ []) }
+    ensures found { OnOk result (map stmt_view body.new ≡ map stmt_view body.old ++ stmt_view statement ∷ []) }
+    ensures whole { OnOk result (IsWholeStmt statement → All IsWholeStmt body.old → All IsWholeStmt body.new) }
 {
     body.push(statement)
 }
@@ -103,6 +137,7 @@ pub fn read_assignments(
     tokens: &mut Cursor,
 ) -> Result<(), Form>
     ensures found { OnOk result (body_spec.read_assignments (suc (length tokens.old)) names.now statics 1 (map stmt_view body.old) tokens.old ≡ got (map stmt_view body.new) tokens.new) }
+    ensures whole { OnOk result (All IsWholeStmt body.old → All IsWholeStmt body.new) }
     ensures none { IsErrOf result NoForm → body_spec.read_assignments (suc (length tokens.old)) names.now statics 1 (map stmt_view body.old) tokens.old ≡ None }
 {
     let mut site: u64 = 1;
@@ -127,6 +162,7 @@ pub fn read_return(
     tokens: &mut Cursor,
 ) -> Result<(), Form>
     ensures found { OnOk result (body_spec.read_return names.now statics gives_int (map stmt_view body.old) tokens.old ≡ got (map stmt_view body.new) tokens.new) }
+    ensures whole { OnOk result (All IsWholeStmt body.old → All IsWholeStmt body.new) }
     ensures none { IsErrOf result NoForm → body_spec.read_return names.now statics gives_int (map stmt_view body.old) tokens.old ≡ None }
 {
     if !gives_int {
@@ -134,6 +170,7 @@ pub fn read_return(
     }
     tokens.expect(b"return")?;
     let value = read_value(alloc, names, statics, tokens)?;
-    push(body, Stmt::Return(value))?;
+    let statement = giving(alloc, value)?;
+    push(body, statement)?;
     Ok(())
 }

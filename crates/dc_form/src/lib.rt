@@ -10,6 +10,7 @@ mod numbers;
 mod reader;
 mod signature;
 mod source;
+mod text;
 mod tokens;
 mod words;
 

@@ -1,10 +1,11 @@
 // What stands in front of a function's clauses.
-ghost use Rattle.std.specs.Prelude.{◌≡◌, ◌≤◌, ◌<◌, ◌++◌, [], ◌∷◌, length, IfOk, OnOk, IsErrOf, nat_le, None, Some, true, false};
+ghost use Rattle.std.specs.Prelude.{◌≡◌, ◌≤◌, ◌<◌, ◌++◌, [], ◌∷◌, length, All, IfOk, OnOk, IsErrOf, nat_le, None, Some, true, false};
 ghost use Rattle.dc_form.specs.Form.{is_new};
 ghost use Rattle.dc_form.specs.Read.Cursor.{front, tail};
 ghost use Rattle.dc_form.specs.Read.Reading.{got};
-ghost use Rattle.dc_form.specs.Read.HeadView.{head_view};
+ghost use Rattle.dc_form.specs.Read.HeadView.{head_view, names_of};
 ghost use Rattle.dc_form.specs.Read.Signature as signature;
+ghost use Rattle.dc_form.specs.Read.Whole.{IsInt};
 ghost use Rattle.dc_form.specs.declared.reader.Form.TheVariants.{NoForm};
 
 use crate::cursor::Cursor;
@@ -12,23 +13,32 @@ use crate::names::declare;
 use crate::reader::Form;
 use crate::tokens::Token;
 use dc_core::Name;
+use dc_layout::LayKind;
 use dc_names::Names;
+use dc_program::{CType, StaticVariable};
 use sqlite_items::Items;
 use std::alloc::{AllocError, Global};
 
 /// The function that is declared behind the variables.
 #[derive(Drop)]
 pub struct Head {
-    pub statics: Items<Name>,
+    pub statics: Items<StaticVariable>,
     pub gives_int: bool,
     pub name: Name,
 }
 
-// One more name behind the others.
-fn push_name(alloc: Global, names: &mut Items<Name>, name: &Token) -> Result<(), AllocError>
-    ensures { OnOk result (names.new ≡ names.old ++ name.now ∷ []) }
+// One more variable behind the others.
+fn push_variable(
+    alloc: Global,
+    statics: &mut Items<StaticVariable>,
+    name: &Token,
+) -> Result<(), AllocError>
+    ensures found { OnOk result (names_of statics.new ≡ names_of statics.old ++ name.now ∷ []) }
+    ensures whole { OnOk result (All IsInt statics.old → All IsInt statics.new) }
 {
-    names.push(Name::copied(alloc, name.as_slice())?)
+    let name = Name::copied(alloc, name.as_slice())?;
+    let ty = CType::Num(LayKind::S32);
+    statics.push(StaticVariable { name, ty })
 }
 
 // The name in front, which is declared behind the others.
@@ -48,7 +58,7 @@ fn read_name<'t, 'a>(
 }
 
 // Whether there is room for no more variables.
-fn is_full(statics: &Items<Name>) -> bool
+fn is_full(statics: &Items<StaticVariable>) -> bool
     ensures { result ≡ nat_le 32766 (length statics.now) }
 {
     statics.len() >= 32766
@@ -76,12 +86,13 @@ fn read_result(tokens: &mut Cursor) -> Result<bool, Form>
 // A function behind these variables.
 fn head_of(
     alloc: Global,
-    statics: Items<Name>,
+    statics: Items<StaticVariable>,
     gives_int: bool,
     token: &Token,
 ) -> Result<Head, Form>
-    ensures found { IfOk result (λ h. head_view h ≡ signature.head statics gives_int token.now) }
-    ensures declared { IfOk result (λ h. h.statics ++ h.name ∷ [] ≡ statics ++ token.now ∷ []) }
+    ensures found { IfOk result (λ h. head_view h ≡ signature.head (names_of statics) gives_int token.now) }
+    ensures declared { IfOk result (λ h. names_of h.statics ++ h.name ∷ [] ≡ names_of statics ++ token.now ∷ []) }
+    ensures whole { IfOk result (λ h. h.statics ≡ statics) }
     ensures none { IsErrOf result NoForm → ⊥ }
 {
     let name = Name::copied(alloc, token.as_slice())?;
@@ -100,7 +111,8 @@ pub fn read_head<'t, 'a>(
 ) -> Result<Head, Form>
     requires { names.old ≡ [] }
     ensures found { IfOk result (λ h. signature.read_head [] tokens.old ≡ got (head_view h) tokens.new) }
-    ensures declared { IfOk result (λ h. names.new ≡ h.statics ++ h.name ∷ []) }
+    ensures declared { IfOk result (λ h. names.new ≡ names_of h.statics ++ h.name ∷ []) }
+    ensures whole { IfOk result (λ h. All IsInt h.statics) }
     ensures none { IsErrOf result NoForm → signature.read_head [] tokens.old ≡ None }
 {
     let mut statics = Items::new(alloc);
@@ -122,7 +134,7 @@ pub fn read_head<'t, 'a>(
         if is_full(&statics) {
             return Err(Form::NoForm);
         }
-        push_name(alloc, &mut statics, token)?;
+        push_variable(alloc, &mut statics, token)?;
     }
 }
 

@@ -1,12 +1,12 @@
 -- A text is spelt by one list of line forms, and these are the lines of one program.
-use Rattle.std.proofs.Common.{◌≡◌, ◌≢◌, ℕ, zero, suc, Bool, true, false, List, [], ◌∷◌, ◌++◌, length, map, Option, None, Some, refl, sym, ap, subst, ◌∙◌, arith, append_assoc, append-nil}
+use Rattle.std.proofs.Common.{◌≡◌, ℕ, List, [], ◌∷◌, ◌++◌, map, Option, None, Some, refl, sym, ap, ◌∙◌, append_assoc, append-nil}
 use Rattle.std.specs.Prelude.{codes, flat_map}
 use Rattle.std.specs.List.{AllByRecursion}
 use Rattle.dc_goto.specs.Program.{Instr, Sig, StaticVar, Body, GotoProgram}
-use Rattle.dc_goto.specs.Text.{sig_line, static_line, instr_line, body_lines, lines_of, line_bytes, text_of, IsSpelt}
-use Rattle.dc_goto.specs.Lines.{BodyHead, Line, Version, Function, Static, Opening, Instruction, End, head_of, forms_of_body, forms_of, line_text, form_bytes, IsForm, AreLines, FirstFormless}
-use Rattle.dc_goto.specs.Reading.{Reading, got, read_line}
-use Rattle.dc_goto.specs.Shape.{function_in, functions_in, first_misshapen, IsShaped, IsGotoText, Misshapen}
+use Rattle.dc_goto.specs.Text.{sig_line, static_line, instr_line, body_lines, lines_of, line_bytes, text_of}
+use Rattle.dc_goto.specs.Lines.{BodyHead, Line, Version, Function, Static, Opening, Instruction, End, head_of, forms_of_body, forms_of, line_text, form_bytes, IsForm, FirstFormless}
+use Rattle.dc_goto.specs.Reading.{read_line}
+use Rattle.dc_goto.specs.Shape.{first_misshapen, IsGotoText, Misshapen}
 use Rattle.dc_goto.proofs.Pieces.{got_parts}
 use Rattle.dc_goto.proofs.Readable.{line_complete}
 

@@ -1,5 +1,5 @@
 -- What the machine does with a goto program.
-use Rattle.std.specs.Prelude.{ℕ, zero, suc, ◌+◌, ◌-◌, ℤ, pos, Bool, true, false, ◌&&◌, not, nat_lt, List, [], ◌∷◌, ◌++◌, length, map, take, drop, replicate, Option, None, Some, slice_get, slice_set, nat_eq, if◌then◌else◌, codes}
+use Rattle.std.specs.Prelude.{ℕ, zero, suc, ◌-◌, ℤ, pos, Bool, true, false, ◌&&◌, not, nat_lt, List, [], ◌∷◌, ◌++◌, length, map, drop, replicate, Option, None, Some, slice_get, slice_set, nat_eq, if◌then◌else◌, codes}
 use Rattle.std.specs.Option.{option_map}
 use Rattle.std.specs.Cmp.Lexicographic.{pointwise}
 use Rattle.dc_num.specs.declared.kind.NumKind.{NumKind}
@@ -7,10 +7,16 @@ use Rattle.dc_num.specs.declared.kind.NumKind.TheVariants.{U64}
 use Rattle.dc_num.specs.declared.operators.BinOp.{BinOp}
 use Rattle.dc_num.specs.declared.operators.BinOp.TheVariants.{Shl, Shr}
 use Rattle.dc_num.specs.Conversions.{bits, converted}
-use Rattle.dc_core.specs.Number.{size_of, computed}
+use Rattle.dc_core.specs.Number.{computed}
 use Rattle.dc_core.specs.Event.{Event, Create, Write, End}
 use Rattle.dc_core.specs.Event as end
-use Rattle.dc_core.specs.Memory.{Memory, Static, function_object, holding, start_of, object_of, offset_of, is_inside, load, store}
+use Rattle.dc_memory.specs.declared.object.ObjKind.TheVariants.{Static}
+use Rattle.dc_memory.specs.Kinds.{size_of}
+use Rattle.dc_memory.specs.Objects.{Memory, holding}
+use Rattle.dc_memory.specs.Places.{start_of, object_of, offset_of, is_inside}
+use Rattle.dc_memory.specs.Access.{load, store}
+use Rattle.dc_program.specs.Kinds.{mem_kind}
+use Rattle.dc_core.specs.Objects.{function_object, rewritten}
 use Rattle.dc_core.specs.Choices.{Drawn, Drew, Dry, draw_value}
 use Rattle.dc_core.specs.World.{World, is_full, next_object, with_local, left, kill_events}
 use Rattle.dc_core.specs.Entry.{static_objects, with_outside}
@@ -36,7 +42,7 @@ as_natural z = bits U64 z
 
 abbrev pub load_from : NumKind → Memory → Option ℤ → Option ℤ
 load_from kind memory None = None
-load_from kind memory (Some z) = load kind (as_natural z) memory
+load_from kind memory (Some z) = load (mem_kind kind) (as_natural z) memory
 
 -- the count of a shift is any number
 abbrev pub right_operand : BinOp → NumKind → ℤ → ℤ
@@ -103,10 +109,9 @@ drawn (Drew v rest events) s go =
     Next (map Did events) (go v (record s { world = record s.world { choices = rest } }))
 drawn (Dry events) s go = Ends (map Did events) end.ChoicesEnded (record s.world { choices = [] })
 
--- the variables' objects in the place of those that stand there
+-- the variables, which stand behind the functions, with these bytes
 abbrev pub with_statics : GotoProgram → Memory → Memory → Memory
-with_statics p statics memory =
-    take (length p.functions) memory ++ (statics ++ drop (length p.functions + length p.statics) memory)
+with_statics p statics memory = rewritten (suc (length p.functions)) statics memory
 
 abbrev pub static_sizes : GotoProgram → List ℕ
 static_sizes p = map (λ v. v.size) p.statics
@@ -147,12 +152,12 @@ act p name (Set r e) s =
 act p name (Store kind a e) s =
     given name s.world (natural_value s.regs s.world.memory a) (λ pointer.
     given name s.world (term_value s.regs s.world.memory e) (λ v.
-    given name s.world (store kind pointer (converted kind v) s.world.memory) (λ memory.
-    Next (Did (Write (object_of pointer) (offset_of pointer) (size_of kind)) ∷ []) (with_memory memory s))))
+    given name s.world (store (mem_kind kind) pointer v s.world.memory) (λ memory.
+    Next (Did (Write (object_of pointer) (offset_of pointer) (size_of (mem_kind kind))) ∷ []) (with_memory memory s))))
 act p name (Init kind a e) s =
     given name s.world (natural_value s.regs s.world.memory a) (λ pointer.
     given name s.world (term_value s.regs s.world.memory e) (λ v.
-    given name s.world (store kind pointer (converted kind v) s.world.memory) (λ memory. Next [] (with_memory memory s))))
+    given name s.world (store (mem_kind kind) pointer v s.world.memory) (λ memory. Next [] (with_memory memory s))))
 act p name (LocalZero r size) s = local_created (is_full s.world) r size s
 act p name (Covers check a n) s =
     Next

@@ -4,5 +4,6 @@ pub mod Follow
 pub mod Statements
 pub mod Call
 pub mod Entry
+pub mod Variables
 pub mod Start
 pub mod Whole

@@ -1,11 +1,15 @@
 // The terms of expressions and of places.
 ghost use Rattle.std.specs.Prelude.{◌≡◌, IfOk};
-ghost use Rattle.dc_core.specs.View.{expr_view, term_view};
+ghost use Rattle.dc_core.specs.First.{no_value};
+ghost use Rattle.dc_core.specs.Term.{Binary};
+ghost use Rattle.dc_core.specs.View.{expr_view, target_view, term_view};
+ghost use Rattle.dc_num.specs.declared.kind.NumKind.TheVariants.{S32};
 ghost use Rattle.dc_instrument.specs.Lowering.{variable_term, parameter_term, result_term, term_of, parameter_place_term, place_term, int_len};
 
 use crate::code::sum;
 use crate::places::Places;
-use dc_core::{Expr, NumKind, Term};
+use dc_core::{BinOp, NumKind, Term};
+use dc_program::{Expr, Form, Range, Target};
 use sqlite_items::Boxed;
 use std::alloc::{AllocError, Global};
 
@@ -39,25 +43,42 @@ fn result_value(at: Places) -> Term
     }
 }
 
+// An operator on two ints.
+fn binary(alloc: Global, op: BinOp, left: Term, right: Term) -> Result<Term, AllocError>
+    ensures { IfOk result (λ t. term_view t ≡ Binary op S32 (term_view left) (term_view right)) }
+{
+    let left = Boxed::new(alloc, left)?;
+    let right = Boxed::new(alloc, right)?;
+    Ok(Term::Binary(op, NumKind::S32, left, right))
+}
+
+/// What has no value.
+pub fn nothing(alloc: Global, at: Places) -> Result<Term, AllocError>
+    ensures { IfOk result (λ t. term_view t ≡ term_of at no_value) }
+{
+    let zero = Term::Constant(NumKind::S32, 0);
+    binary(alloc, BinOp::Div, zero, Term::Constant(NumKind::S32, 0))
+}
+
 /// The value of an expression.
 pub fn term(alloc: Global, at: Places, e: &Expr) -> Result<Term, AllocError>
     ensures { IfOk result (λ t. term_view t ≡ term_of at (expr_view e.now)) }
 {
-    match e {
-        Expr::Literal(z) => Ok(Term::Constant(NumKind::S32, *z)),
-        Expr::Variable(k) => {
-            let place = variable(*k)?;
+    match e.form.get() {
+        Form::Literal(z) => Ok(Term::Constant(NumKind::S32, *z)),
+        Form::Static(k) => {
+            let place = variable(*k as u64)?;
             Ok(Term::Load(NumKind::S32, Boxed::new(alloc, place)?))
         }
-        Expr::Parameter(k) => parameter(alloc, at, *k),
-        Expr::ReturnValue => Ok(result_value(at)),
-        Expr::Binary(op, a, b) => {
-            let left = term(alloc, at, a.get())?;
-            let right = term(alloc, at, b.get())?;
-            let left = Boxed::new(alloc, left)?;
-            let right = Boxed::new(alloc, right)?;
-            Ok(Term::Binary(*op, NumKind::S32, left, right))
+        Form::Local(k) => parameter(alloc, at, *k as u64),
+        Form::Argument(k) => parameter(alloc, at, *k as u64),
+        Form::ReturnValue => Ok(result_value(at)),
+        Form::Binary(op, a, b) => {
+            let left = term(alloc, at, a)?;
+            let right = term(alloc, at, b)?;
+            binary(alloc, *op, left, right)
         }
+        _ => nothing(alloc, at),
     }
 }
 
@@ -75,13 +96,21 @@ fn parameter_place(at: Places, k: u64) -> Result<Term, AllocError>
 pub fn place(at: Places, e: &Expr) -> Result<Term, AllocError>
     ensures { IfOk result (λ t. term_view t ≡ place_term at (expr_view e.now)) }
 {
-    match e {
-        Expr::Variable(k) => variable(*k),
-        Expr::Parameter(k) => parameter_place(at, *k),
-        Expr::Literal(_) | Expr::ReturnValue | Expr::Binary(_, _, _) => Ok(Term::Constant(
-            NumKind::U64,
-            0,
-        )),
+    match e.form.get() {
+        Form::Static(k) => variable(*k as u64),
+        Form::Local(k) => parameter_place(at, *k as u64),
+        Form::Argument(k) => parameter_place(at, *k as u64),
+        _ => Ok(Term::Constant(NumKind::U64, 0)),
+    }
+}
+
+/// The place of a target.
+pub fn target(at: Places, target: &Target) -> Result<Term, AllocError>
+    ensures { IfOk result (λ t. term_view t ≡ place_term at (target_view target.now)) }
+{
+    match &target.range {
+        Range::Lvalue(e) => place(at, e),
+        _ => Ok(Term::Constant(NumKind::U64, 0)),
     }
 }
 

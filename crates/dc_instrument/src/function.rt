@@ -1,16 +1,19 @@
 // The code of a function's own body.
-ghost use Rattle.std.specs.Prelude.{◌≡◌, [], ◌∷◌, ◌++◌, map, IfOk, OnOk};
+ghost use Rattle.std.specs.Prelude.{◌≡◌, [], ◌∷◌, ◌++◌, map, IfOk, OnOk, Some};
 ghost use Rattle.dc_core.specs.Program as plain;
-ghost use Rattle.dc_core.specs.View.{expr_view, function_view, stmt_view};
+ghost use Rattle.dc_core.specs.Term.{Register};
+ghost use Rattle.dc_core.specs.View.{act_view, expr_view, function_view, stmt_view, term_view};
+ghost use Rattle.dc_goto.specs.Program.{Return, Set};
 ghost use Rattle.dc_goto.specs.View.{body_view, instr_view};
 ghost use Rattle.dc_instrument.specs.Lowering.{function_body, last_instr, parameters_code, statements_code};
 
 use crate::assertion::assigns_name;
 use crate::code::{put, sum};
-use crate::expression::{int_length, place, term};
+use crate::expression::{int_length, nothing, place, term};
 use crate::places::Places;
-use dc_core::{Expr, Function, Name, NumKind, Stmt, Term};
+use dc_core::{Name, NumKind, Term, body, gives_int, params};
 use dc_goto::{Body, Instr};
+use dc_program::{Expr, Form, Function, Stmt, StmtForm};
 use sqlite_items::Items;
 use std::alloc::{AllocError, Global};
 
@@ -56,23 +59,40 @@ fn put_assign(
 }
 
 // A return of a value, by way of the register.
-fn put_return(
-    alloc: Global,
-    out: &mut Items<Instr>,
-    name: &Name,
-    first: u64,
-    register: u64,
-    value: &Expr,
-) -> Result<(), AllocError>
-    ensures { OnOk result (map instr_view out.new ≡ map instr_view out.old ++ statements_code name.now first register (plain.Return (expr_view value.now) ∷ [])) }
+fn put_return(out: &mut Items<Instr>, register: u64, value: Term) -> Result<(), AllocError>
+    ensures { OnOk result (map instr_view out.new ≡ map instr_view out.old ++ Set register (term_view value) ∷ Return (Some (Register register)) ∷ []) }
 {
-    let value = term(alloc, Places::Body(first), value)?;
     put(out, Instr::Set(register, value))?;
     put(out, Instr::Return(Some(Term::Register(register))))?;
     Ok(())
 }
 
-// A statement, with the register for its value.
+// An expression that is a statement, with the register for its value.
+fn put_act(
+    alloc: Global,
+    out: &mut Items<Instr>,
+    name: &Name,
+    first: u64,
+    register: u64,
+    e: &Expr,
+) -> Result<(), AllocError>
+    ensures { OnOk result (map instr_view out.new ≡ map instr_view out.old ++ statements_code name.now first register (act_view e.now ∷ [])) }
+{
+    match e.form.get() {
+        Form::Assign(to, value, location) => {
+            let site = location.number;
+            put_assign(alloc, out, name, first, register, site, to, value)?;
+            Ok(())
+        }
+        _ => {
+            let value = nothing(alloc, Places::Body(first))?;
+            put_return(out, register, value)?;
+            Ok(())
+        }
+    }
+}
+
+// A statement, with the register for its value. One that is not of the first form has no value to return.
 fn put_statement(
     alloc: Global,
     out: &mut Items<Instr>,
@@ -83,13 +103,19 @@ fn put_statement(
 ) -> Result<(), AllocError>
     ensures { OnOk result (map instr_view out.new ≡ map instr_view out.old ++ statements_code name.now first register (stmt_view s.now ∷ [])) }
 {
-    match s {
-        Stmt::Assign(site, to, value) => {
-            put_assign(alloc, out, name, first, register, *site, to, value)?;
+    match s.form.get() {
+        StmtForm::Expression(e) => {
+            put_act(alloc, out, name, first, register, e)?;
             Ok(())
         }
-        Stmt::Return(value) => {
-            put_return(alloc, out, name, first, register, value)?;
+        StmtForm::ReturnWith(value) => {
+            let value = term(alloc, Places::Body(first), value)?;
+            put_return(out, register, value)?;
+            Ok(())
+        }
+        _ => {
+            let value = nothing(alloc, Places::Body(first))?;
+            put_return(out, register, value)?;
             Ok(())
         }
     }
@@ -129,13 +155,14 @@ fn last(gives_int: bool) -> Instr
 pub fn function_body(alloc: Global, f: &Function) -> Result<Body, AllocError>
     ensures { IfOk result (λ b. body_view b ≡ function_body (function_view f.now)) }
 {
-    let params = f.params;
+    let params = params(f);
+    let statements = body(f);
     let first = sum(params, params)?;
     let mut code = Items::new(alloc);
     put_parameters(&mut code, params, params)?;
-    put_statements(alloc, &mut code, &f.name, params, first, f.body.as_slice())?;
-    put(&mut code, last(f.gives_int))?;
-    let regs = sum(first, f.body.len() as u64)?;
+    put_statements(alloc, &mut code, &f.name, params, first, statements)?;
+    put(&mut code, last(gives_int(f)))?;
+    let regs = sum(first, statements.len() as u64)?;
     let name = f.name.duplicate(alloc)?;
     Ok(Body {
         name,

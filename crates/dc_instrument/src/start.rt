@@ -1,16 +1,17 @@
 // The code of the start: draws, the requires, the set with its ranges, the call, the ensures.
 ghost use Rattle.std.specs.Prelude.{◌≡◌, [], ◌∷◌, ◌++◌, map, IfOk, OnOk};
 ghost use Rattle.std.specs.Option.{option_map};
-ghost use Rattle.dc_core.specs.View.{expr_view, function_view, term_view};
+ghost use Rattle.dc_core.specs.View.{clause_view, function_view, target_view, term_view};
 ghost use Rattle.dc_goto.specs.View.{body_view, instr_view};
 ghost use Rattle.dc_instrument.specs.Lowering.{argument_terms, call_code, checks_code, draws_code, group_code, ranges_code, require_code, result_register, result_value, start_body, start_code, start_regs};
 
 use crate::assertion::postcondition_name;
 use crate::code::{put, sum};
-use crate::expression::{int_length, place, term};
+use crate::expression::{int_length, target, term};
 use crate::places::Places;
-use dc_core::{Expr, Function, Name, NumKind, Term};
+use dc_core::{Name, NumKind, Term, assigned, ensured, gives_int, params, required};
 use dc_goto::{Body, Instr};
+use dc_program::{Clause, Function, Target};
 use sqlite_items::Items;
 use std::alloc::{AllocError, Global};
 
@@ -40,12 +41,12 @@ fn put_conditions(
     alloc: Global,
     out: &mut Items<Instr>,
     at: Places,
-    conditions: &[Expr],
+    conditions: &[Clause],
 ) -> Result<(), AllocError>
-    ensures { OnOk result (map instr_view out.new ≡ map instr_view out.old ++ require_code at (map expr_view conditions.now)) }
+    ensures { OnOk result (map instr_view out.new ≡ map instr_view out.old ++ require_code at (map clause_view conditions.now)) }
 {
-    for e in conditions {
-        put(out, Instr::Require(term(alloc, at, e)?))?;
+    for clause in conditions {
+        put(out, Instr::Require(term(alloc, at, &clause.condition)?))?;
     }
     Ok(())
 }
@@ -55,9 +56,9 @@ fn put_requires(
     alloc: Global,
     out: &mut Items<Instr>,
     at: Places,
-    conditions: &[Expr],
+    conditions: &[Clause],
 ) -> Result<(), AllocError>
-    ensures { OnOk result (map instr_view out.new ≡ map instr_view out.old ++ group_code (require_code at (map expr_view conditions.now))) }
+    ensures { OnOk result (map instr_view out.new ≡ map instr_view out.old ++ group_code (require_code at (map clause_view conditions.now))) }
 {
     if conditions.is_empty() {
         return Ok(());
@@ -68,15 +69,15 @@ fn put_requires(
 }
 
 // The ranges of the targets, with their numbers from 1 on.
-fn put_ranges(out: &mut Items<Instr>, at: Places, targets: &[Expr]) -> Result<(), AllocError>
-    ensures { OnOk result (map instr_view out.new ≡ map instr_view out.old ++ ranges_code at 1 (map expr_view targets.now)) }
+fn put_ranges(out: &mut Items<Instr>, at: Places, targets: &[Target]) -> Result<(), AllocError>
+    ensures { OnOk result (map instr_view out.new ≡ map instr_view out.old ++ ranges_code at 1 (map target_view targets.now)) }
 {
     let mut number = 1;
-    for e in targets {
+    for one in targets {
         let always = Term::Constant(NumKind::S32, 1);
         put(
             out,
-            Instr::Range(number, always, place(at, e)?, int_length()),
+            Instr::Range(number, always, target(at, one)?, int_length()),
         )?;
         number = sum(number, 1)?;
     }
@@ -89,14 +90,17 @@ fn put_tests(
     out: &mut Items<Instr>,
     name: &Name,
     at: Places,
-    clauses: &[Expr],
+    clauses: &[Clause],
 ) -> Result<(), AllocError>
-    ensures { OnOk result (map instr_view out.new ≡ map instr_view out.old ++ checks_code name.now at 1 (map expr_view clauses.now)) }
+    ensures { OnOk result (map instr_view out.new ≡ map instr_view out.old ++ checks_code name.now at 1 (map clause_view clauses.now)) }
 {
     let mut number = 1;
-    for e in clauses {
+    for clause in clauses {
         let assertion = postcondition_name(alloc, name, number)?;
-        put(out, Instr::Check(assertion, term(alloc, at, e)?))?;
+        put(
+            out,
+            Instr::Check(assertion, term(alloc, at, &clause.condition)?),
+        )?;
         number = sum(number, 1)?;
     }
     Ok(())
@@ -108,9 +112,9 @@ fn put_checks(
     out: &mut Items<Instr>,
     name: &Name,
     at: Places,
-    clauses: &[Expr],
+    clauses: &[Clause],
 ) -> Result<(), AllocError>
-    ensures { OnOk result (map instr_view out.new ≡ map instr_view out.old ++ group_code (checks_code name.now at 1 (map expr_view clauses.now))) }
+    ensures { OnOk result (map instr_view out.new ≡ map instr_view out.old ++ group_code (checks_code name.now at 1 (map clause_view clauses.now))) }
 {
     if clauses.is_empty() {
         return Ok(());
@@ -124,15 +128,15 @@ fn put_checks(
 fn call_register(f: &Function) -> Option<u64>
     ensures { result ≡ result_register (function_view f.now) }
 {
-    if f.gives_int { Some(f.params) } else { None }
+    if gives_int(f) { Some(params(f)) } else { None }
 }
 
 // What the start returns.
 fn returned(f: &Function) -> Option<Term>
     ensures { option_map term_view result ≡ result_value (function_view f.now) }
 {
-    if f.gives_int {
-        Some(Term::Register(f.params))
+    if gives_int(f) {
+        Some(Term::Register(params(f)))
     } else {
         None
     }
@@ -143,7 +147,7 @@ fn put_call(alloc: Global, out: &mut Items<Instr>, f: &Function) -> Result<(), A
     ensures { OnOk result (map instr_view out.new ≡ map instr_view out.old ++ call_code (function_view f.now)) }
 {
     let name = f.name.duplicate(alloc)?;
-    let call = Instr::Call(call_register(f), name, arguments(alloc, f.params)?);
+    let call = Instr::Call(call_register(f), name, arguments(alloc, params(f))?);
     put(out, call)?;
     Ok(())
 }
@@ -152,17 +156,16 @@ fn put_call(alloc: Global, out: &mut Items<Instr>, f: &Function) -> Result<(), A
 fn start_code(alloc: Global, f: &Function) -> Result<Items<Instr>, AllocError>
     ensures { IfOk result (λ code. map instr_view code ≡ start_code (function_view f.now)) }
 {
-    let at = Places::Clauses(f.params);
+    let at = Places::Clauses(params(f));
     let mut code = Items::new(alloc);
     put(&mut code, Instr::Statics)?;
     put(&mut code, Instr::OutsideObjects)?;
-    put_draws(&mut code, f.params)?;
-    put_requires(alloc, &mut code, at, f.contract.requires_.as_slice())?;
+    put_draws(&mut code, params(f))?;
+    put_requires(alloc, &mut code, at, required(f))?;
     put(&mut code, Instr::Push)?;
-    put_ranges(&mut code, at, f.contract.assigns.as_slice())?;
+    put_ranges(&mut code, at, assigned(f))?;
     put_call(alloc, &mut code, f)?;
-    let ensures_ = f.contract.ensures_.as_slice();
-    put_checks(alloc, &mut code, &f.name, at, ensures_)?;
+    put_checks(alloc, &mut code, &f.name, at, ensured(f))?;
     put(&mut code, Instr::Pop)?;
     put(&mut code, Instr::Return(returned(f)))?;
     Ok(code)
@@ -172,10 +175,10 @@ fn start_code(alloc: Global, f: &Function) -> Result<Items<Instr>, AllocError>
 fn registers(f: &Function) -> Result<u64, AllocError>
     ensures { IfOk result (λ n. n ≡ start_regs (function_view f.now)) }
 {
-    if f.gives_int {
-        sum(f.params, 1)
+    if gives_int(f) {
+        sum(params(f), 1)
     } else {
-        Ok(f.params)
+        Ok(params(f))
     }
 }
 

@@ -1,10 +1,13 @@
 -- Instructions, each by what its expressions are.
 use Rattle.std.proofs.Common.{◌≡◌, ℕ, zero, suc, ◌+◌, ◌<◌, ℤ, pos, Bool, true, false, List, [], ◌∷◌, ◌++◌, length, map, Some, None, refl, ap, sym, ◌∙◌, arith, ◌*◌, ◌^◌, append_assoc, to_z, of_z}
-use Rattle.std.specs.Prelude.{replicate, nat_le, nat_lt, ◌&&◌}
+use Rattle.std.specs.Prelude.{replicate, nat_le}
 use Rattle.std.proofs.lemmas.Int.{ints}
 use Rattle.dc_core.specs.Event.{Create, Write, Undefined, Blocked, ObjectLimit}
-use Rattle.dc_core.specs.Contract.{WriteSet, allowed, holds, denoted, with_ranges}
-use Rattle.dc_core.specs.Memory.{Memory, start_of, object_of, offset_of, is_inside, object_limit, function_object, Static, holding}
+use Rattle.dc_core.specs.Contract.{WriteSet, holds, denoted, with_ranges}
+use Rattle.dc_memory.specs.declared.object.ObjKind.TheVariants.{Static}
+use Rattle.dc_memory.specs.Objects.{Memory, object_limit, holding}
+use Rattle.dc_memory.specs.Places.{start_of}
+use Rattle.dc_core.specs.Objects.{function_object}
 use Rattle.dc_core.specs.Run.{Did, checked}
 use Rattle.dc_core.specs.Term.{Term}
 use Rattle.dc_core.specs.World.{is_full, next_object, with_local}
@@ -50,24 +53,11 @@ pub range-act : (p : GotoProgram) (name : List ℕ) (tag : ℕ) (e a n : Term) (
 range-act p name tag e a n s set new sets h f = rw (f, h) refl
 
 pub full-test : (n m : ℕ) → n ≡ m → nat_le 65535 n ≡ nat_le object_limit m
-unfolding object_limit
 full-test n m e = rw e refl
 
 pub replicate-more : {A : Type 0} (n : ℕ) (x : A) → replicate (n + 1) x ≡ replicate n x ++ x ∷ []
 replicate-more zero x = refl
 replicate-more (suc n) x = let e : suc n + 1 ≡ suc (n + 1) = omega arith in rw e (ap (λ l. x ∷ l) (replicate-more n x))
-
--- no write is covered by anything, and one is by the innermost set
-pub covered-none : (sets : List WriteSet) (memory : Memory) (pointer len : ℕ) → (nat_lt 0 len && is_inside memory pointer len) ≡ false → covered sets memory (Some pointer) (Some len) ≡ true
-covered-none [] memory pointer len h = rw h refl
-covered-none (set ∷ sets) memory pointer len h = rw h refl
-
-pub covered-alone : (memory : Memory) (pointer len : ℕ) → (nat_lt 0 len && is_inside memory pointer len) ≡ true → covered [] memory (Some pointer) (Some len) ≡ false
-covered-alone memory pointer len h = rw h refl
-
-pub covered-set : (sets all : List WriteSet) (set : WriteSet) (memory : Memory) (pointer len : ℕ) → all ≡ set ∷ sets → (nat_lt 0 len && is_inside memory pointer len) ≡ true
-    → covered all memory (Some pointer) (Some len) ≡ allowed set (object_of pointer) (offset_of pointer) len
-covered-set sets all set memory pointer len e h = rw (e, h) refl
 
 to_z-of_z-small : (n : ℕ) → n < 2 ^ 127 → to_z w128 (of_z w128 (pos n)) ≡ pos n
 to_z-of_z-small n h = omega (arith, ints)

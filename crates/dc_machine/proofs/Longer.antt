@@ -5,9 +5,12 @@ use Rattle.dc_num.specs.declared.kind.NumKind.{NumKind}
 use Rattle.dc_core.specs.Event as end
 use Rattle.dc_core.specs.Event.{Event, Write, End, Returned, Blocked, Undefined, NoBody, ObjectLimit, DepthLimit, ChoicesEnded, Cut}
 use Rattle.dc_core.specs.Choices.{Drawn, Drew, Dry, Draws, after, bind, ◌>>=◌, give, tell, draw, draw_bytes, draw_value}
-use Rattle.dc_core.specs.Memory.{Memory, ObjKind, object_of, offset_of, store}
-use Rattle.dc_num.specs.Conversions.{converted}
-use Rattle.dc_core.specs.Number.{size_of}
+use Rattle.dc_memory.specs.declared.object.ObjKind.{ObjKind}
+use Rattle.dc_memory.specs.Kinds.{size_of}
+use Rattle.dc_memory.specs.Objects.{Memory}
+use Rattle.dc_memory.specs.Places.{object_of, offset_of}
+use Rattle.dc_memory.specs.Access.{store}
+use Rattle.dc_program.specs.Kinds.{mem_kind}
 use Rattle.dc_core.specs.Entry.{static_objects, live_object, dead_object, outside_object, outside_objects, with_outside}
 use Rattle.dc_core.specs.World.{World, is_full}
 use Rattle.dc_core.specs.Contract.{holds}
@@ -136,13 +139,13 @@ act_same : (rest : List ℕ) (p : GotoProgram) (name : List ℕ) (i : Instr) (s 
 act_same rest p name (Set r e) s =
     given_now rest name s (term_value s.regs s.world.memory e) (λ v s. Next [] (with_register r v s)) (λ v. refl)
 act_same rest p name (Store kind a e) s =
-    given_now rest name s (natural_value s.regs s.world.memory a) (λ pointer s. given name s.world (term_value s.regs s.world.memory e) (λ v. given name s.world (store kind pointer (converted kind v) s.world.memory) (λ memory. Next (Did (Write (object_of pointer) (offset_of pointer) (size_of kind)) ∷ []) (with_memory memory s))))
-    (λ pointer. given_now rest name s (term_value s.regs s.world.memory e) (λ v s. given name s.world (store kind pointer (converted kind v) s.world.memory) (λ memory. Next (Did (Write (object_of pointer) (offset_of pointer) (size_of kind)) ∷ []) (with_memory memory s)))
-    (λ v. given_now rest name s (store kind pointer (converted kind v) s.world.memory) (λ memory s. Next (Did (Write (object_of pointer) (offset_of pointer) (size_of kind)) ∷ []) (with_memory memory s)) (λ memory. refl)))
+    given_now rest name s (natural_value s.regs s.world.memory a) (λ pointer s. given name s.world (term_value s.regs s.world.memory e) (λ v. given name s.world (store (mem_kind kind) pointer v s.world.memory) (λ memory. Next (Did (Write (object_of pointer) (offset_of pointer) (size_of (mem_kind kind))) ∷ []) (with_memory memory s))))
+    (λ pointer. given_now rest name s (term_value s.regs s.world.memory e) (λ v s. given name s.world (store (mem_kind kind) pointer v s.world.memory) (λ memory. Next (Did (Write (object_of pointer) (offset_of pointer) (size_of (mem_kind kind))) ∷ []) (with_memory memory s)))
+    (λ v. given_now rest name s (store (mem_kind kind) pointer v s.world.memory) (λ memory s. Next (Did (Write (object_of pointer) (offset_of pointer) (size_of (mem_kind kind))) ∷ []) (with_memory memory s)) (λ memory. refl)))
 act_same rest p name (Init kind a e) s =
-    given_now rest name s (natural_value s.regs s.world.memory a) (λ pointer s. given name s.world (term_value s.regs s.world.memory e) (λ v. given name s.world (store kind pointer (converted kind v) s.world.memory) (λ memory. Next ([]) (with_memory memory s))))
-    (λ pointer. given_now rest name s (term_value s.regs s.world.memory e) (λ v s. given name s.world (store kind pointer (converted kind v) s.world.memory) (λ memory. Next ([]) (with_memory memory s)))
-    (λ v. given_now rest name s (store kind pointer (converted kind v) s.world.memory) (λ memory s. Next ([]) (with_memory memory s)) (λ memory. refl)))
+    given_now rest name s (natural_value s.regs s.world.memory a) (λ pointer s. given name s.world (term_value s.regs s.world.memory e) (λ v. given name s.world (store (mem_kind kind) pointer v s.world.memory) (λ memory. Next ([]) (with_memory memory s))))
+    (λ pointer. given_now rest name s (term_value s.regs s.world.memory e) (λ v s. given name s.world (store (mem_kind kind) pointer v s.world.memory) (λ memory. Next ([]) (with_memory memory s)))
+    (λ v. given_now rest name s (store (mem_kind kind) pointer v s.world.memory) (λ memory s. Next ([]) (with_memory memory s)) (λ memory. refl)))
 act_same rest p name (LocalZero r size) s = local_same rest (is_full s.world) r size s
 act_same rest p name (Covers check a n) s = refl
 act_same rest p name (Call r function arguments) s =

@@ -2,7 +2,7 @@
 use Rattle.std.proofs.Common.{◌≡◌, ℕ, zero, suc, ◌+◌, ◌<◌, ◌≤◌, ℤ, List, [], ◌∷◌, ◌++◌, length, map, take, drop, get_or, reverse, Option, Some, None, refl, ap, sym, ◌∙◌, arith, append_assoc, append-nil}
 use Rattle.std.specs.Prelude.{option_map}
 use Rattle.std.proofs.lemmas.List.{map-append, reverse-append, length-map, length-take-le}
-use Rattle.dc_core.specs.Memory.{Memory}
+use Rattle.dc_memory.specs.Objects.{Memory}
 use Rattle.dc_core.specs.Term.{Term}
 use Rattle.dc_goto.specs.Machine.{Registers, term_value, with_value, term_values}
 

@@ -2,7 +2,6 @@
 use Rattle.std.specs.Prelude.{ℕ, List, [], map, reverse, Option, Some, None, slice_get}
 use Rattle.dc_goto.specs.Program.{Instr, Body}
 use Rattle.dc_goto.specs.Machine as plain
-use Rattle.dc_world.specs.View.{memory_view}
 use Rattle.dc_world.specs.Sets.{set_view}
 use Rattle.dc_machine.specs.declared.now.Now.{Now}
 use Rattle.dc_machine.specs.declared.machine.Frame.{Frame}
@@ -14,7 +13,7 @@ now_view s choices =
       regs = s.regs.items;
       sets = reverse (map set_view s.sets.items);
       seen = [];
-      world = record { memory = memory_view s.memory; choices = choices; locals = reverse s.locals.items };
+      world = record { memory = s.memory; choices = choices; locals = reverse s.locals.items };
     }
 
 -- the name and the code of a body's number; there is neither where no body has it

@@ -14,8 +14,9 @@ use crate::now::Now;
 use crate::term::{holds, start};
 use dc_choice::Watch;
 use dc_core::{NumKind, Term};
+use dc_memory::{object_number, offset};
 use dc_text::{Event, Name};
-use dc_world::{End, Log, ObjKind, Object, Which, WriteSet, object_number, offset, size};
+use dc_world::{End, Log, Storage, Which, WriteSet, add_zeros, size};
 use std::alloc::{AllocError, Global};
 
 /// The end of a run that came to something without meaning in the function of this name.
@@ -103,16 +104,15 @@ impl Now {
     }
 
     // One more object of the running function, of that many zero bytes.
-    fn push_local(&mut self, alloc: Global, len: u64) -> Result<u64, AllocError>
+    fn push_local(&mut self, len: u64) -> Result<u64, AllocError>
         ensures { IfOk result (λ number.
             (number < 2 ^ 63)
             × ((choices : List ℕ) → (number ≡ next_object (now_view self.old choices).world)
             × (now_view self.new choices ≡ record (now_view self.old choices) { world = with_local (replicate len 0) (now_view self.old choices).world }))) }
     {
-        let bytes = vec![in alloc; 0; len as usize]?;
         let number = self.memory.count() + 1;
         self.locals.try_reserve(1)?;
-        self.memory.push(Object::holding(ObjKind::Stack, bytes))?;
+        add_zeros(&mut self.memory, Storage::Stack, len)?;
         self.locals.push_reserved(number);
         Ok(number)
     }
@@ -120,7 +120,6 @@ impl Now {
     /// A stack object of that many zero bytes, its start in the register.
     pub fn local_zero<W: Watch>(
         &mut self,
-        alloc: Global,
         register: u64,
         len: u64,
         watch: &mut W,
@@ -134,7 +133,7 @@ impl Now {
         if self.is_full() {
             return Ok(Some(End::Limit(Which::Objects)));
         }
-        let number = self.push_local(alloc, len)?;
+        let number = self.push_local(len)?;
         self.put(register, Some(start(number)));
         log.tell(watch, Event::Create(number));
         Ok(None)

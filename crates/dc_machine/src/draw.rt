@@ -12,7 +12,7 @@ use crate::now::Now;
 use dc_choice::{Chooser, Watch};
 use dc_core::NumKind;
 use dc_goto::Sig;
-use dc_world::{End, Log, draw_value, static_objects, with_outside};
+use dc_world::{End, Log, draw_value, rewrite_all, static_objects, with_outside};
 use std::alloc::{AllocError, Global};
 
 impl Now {
@@ -37,8 +37,7 @@ impl Now {
         let Some(objects) = static_objects(alloc, sizes, chooser, used, watch, log)? else {
             return Ok(Some(End::ChoicesEnded));
         };
-        self.memory
-            .replace(functions.len(), functions.len() + sizes.len(), objects)?;
+        rewrite_all(&mut self.memory, functions.len(), objects.as_slice());
         Ok(None)
     }
 

@@ -43,7 +43,7 @@ impl Now {
                 alloc, name, *kind, place, value, watch, log,
             ),
             Instr::Init(kind, place, value) => self.init(alloc, name, *kind, place, value),
-            Instr::LocalZero(register, len) => self.local_zero(alloc, *register, *len, watch, log),
+            Instr::LocalZero(register, len) => self.local_zero(*register, *len, watch, log),
             Instr::Covers(check, place, len) => self.covers(
                 alloc,
                 check.as_slice(),

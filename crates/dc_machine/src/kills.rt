@@ -9,7 +9,7 @@ ghost use Rattle.dc_world.specs.Log.{hearing};
 use crate::now::Now;
 use dc_choice::Watch;
 use dc_text::Event;
-use dc_world::Log;
+use dc_world::{Log, let_die};
 
 impl Now {
     /// The running function's objects die, the newest first.
@@ -19,7 +19,7 @@ impl Now {
             ≡ told (map Did (kill_events (now_view self.old []).world)) (hearing (W.records watch.old) (W.parts watch.old) log.old) }
     {
         while let Some(object) = self.locals.pop() {
-            self.memory.kill(object);
+            let_die(&mut self.memory, object);
             log.tell(watch, Event::Kill(object));
         }
     }

@@ -1,16 +1,17 @@
 // The machine.
 ghost use Rattle.std.specs.Prelude.{◌≡◌, ◌<◌, ◌^◌, ◌+◌, ◌-◌, ◌∷◌, ◌++◌, [], reverse, List, ℕ, ℤ, Option, Some, None, pos, map, length, replicate, nat_lt, true, OnOk, IfOk, slice_get, option_map};
-ghost use Rattle.dc_core.specs.Memory.{Static, function_object, holding};
+ghost use Rattle.dc_core.specs.Objects.{function_object};
 ghost use Rattle.dc_core.specs.View.{term_view};
 ghost use Rattle.dc_goto.specs.Machine.{act as acted, proceed, step as plain_step, step_at, entered, entered_body, body_of, with_result, caller, left_body, depth_limit, first_registers as registers_of, first_memory as memory_of, first_world};
 ghost use Rattle.dc_goto.specs.Program as plain;
 ghost use Rattle.dc_goto.specs.View.{instr_view, body_view, goto_view};
+ghost use Rattle.dc_memory.specs.declared.object.ObjKind.TheVariants.{Static};
+ghost use Rattle.dc_memory.specs.Objects.{holding};
 ghost use Rattle.dc_machine.specs.Linked.{linked_view, IsLinked};
 ghost use Rattle.dc_machine.specs.Step.{IsStep, IsAlone, running, goes_on};
 ghost use Rattle.dc_machine.specs.View.{now_view, name_at, code_at, machine_view};
 ghost use Rattle.dc_world.specs.Told.{Hearing, supply};
 ghost use Rattle.dc_world.specs.Log.{hearing};
-ghost use Rattle.dc_world.specs.View.{memory_view};
 
 use crate::act::{no_body, undefined};
 use crate::now::Now;
@@ -19,8 +20,9 @@ use crate::term::term_values;
 use dc_choice::{Chooser, Watch};
 use dc_core::Term;
 use dc_goto::{Body, Instr};
+use dc_memory::Store;
 use dc_text::Event;
-use dc_world::{End, Log, Memory, ObjKind, Object, Which};
+use dc_world::{End, Log, Storage, Which, add_function, add_zeros};
 use sqlite_items::at;
 use std::alloc::{AllocError, Global};
 use std::mem;
@@ -59,34 +61,33 @@ fn first_registers(
 }
 
 // That many functions behind the objects of a memory.
-fn push_functions(alloc: Global, memory: &mut Memory, count: usize) -> Result<(), AllocError>
-    ensures { OnOk result (memory_view memory.new ≡ memory_view memory.old ++ replicate count function_object) }
+fn push_functions(memory: &mut Store, count: usize) -> Result<(), AllocError>
+    ensures { OnOk result (memory.new ≡ memory.old ++ replicate count function_object) }
 {
     for _at in 0..count {
-        memory.push(Object::function(alloc))?;
+        add_function(memory)?;
     }
     Ok(())
 }
 
 // Variables of zero bytes of these sizes behind the objects of a memory.
-fn push_variables(alloc: Global, memory: &mut Memory, sizes: &[u64]) -> Result<(), AllocError>
-    ensures { OnOk result (memory_view memory.new ≡ memory_view memory.old ++ map (λ size. holding Static (replicate size 0)) sizes.now) }
+fn push_variables(memory: &mut Store, sizes: &[u64]) -> Result<(), AllocError>
+    ensures { OnOk result (memory.new ≡ memory.old ++ map (λ size. holding Static (replicate size 0)) sizes.now) }
 {
     for size in sizes {
-        let bytes = vec![in alloc; 0; *size as usize]?;
-        memory.push(Object::holding(ObjKind::Static, bytes))?;
+        add_zeros(memory, Storage::Static, *size)?;
     }
     Ok(())
 }
 
 // The memory of the start: functions, and variables of zero bytes.
-fn first_memory(alloc: Global, p: &Linked) -> Result<Memory, AllocError>
+fn first_memory(alloc: Global, p: &Linked) -> Result<Store, AllocError>
     requires { IsLinked p.now }
-    ensures { IfOk result (λ memory. memory_view memory ≡ memory_of (linked_view p.now)) }
+    ensures { IfOk result (λ memory. memory ≡ memory_of (linked_view p.now)) }
 {
-    let mut memory = Memory::new(alloc);
-    push_functions(alloc, &mut memory, p.goto.functions.len())?;
-    push_variables(alloc, &mut memory, p.sizes.as_slice())?;
+    let mut memory = Store::new(alloc);
+    push_functions(&mut memory, p.goto.functions.len())?;
+    push_variables(&mut memory, p.sizes.as_slice())?;
     Ok(memory)
 }
 

@@ -5,13 +5,13 @@ ghost use Rattle.dc_core.specs.View.{term_view};
 ghost use Rattle.dc_goto.specs.Machine.{with_register, covered, term_value as value_of, natural_value as natural_of};
 ghost use Rattle.dc_machine.specs.View.{now_view};
 ghost use Rattle.dc_machine.specs.Written.{IsWritten};
-ghost use Rattle.dc_world.specs.View.{memory_view};
 ghost use Rattle.dc_world.specs.Sets.{set_view};
 
 use crate::term::{natural_value, term_value};
 use dc_core::{NumKind, Term};
-use dc_num::convert;
-use dc_world::{Memory, WriteSet, object_number, offset};
+use dc_memory::{Store, object_number, offset};
+use dc_program::mem_kind;
+use dc_world::WriteSet;
 
 /// What instructions read and change: the registers, the write sets (innermost last), the memory, and the objects of the
 /// running function (newest last).
@@ -19,21 +19,21 @@ use dc_world::{Memory, WriteSet, object_number, offset};
 pub struct Now {
     pub regs: Vec<Option<i128>>,
     pub sets: Vec<WriteSet>,
-    pub memory: Memory,
+    pub memory: Store,
     pub locals: Vec<u64>,
 }
 
 impl Now {
     /// The value of an expression, where it has one.
     pub fn value(&self, term: &Term) -> Option<i128>
-        ensures { result ≡ value_of self.now.regs.items (memory_view self.now.memory) (term_view term.now) }
+        ensures { result ≡ value_of self.now.regs.items self.now.memory (term_view term.now) }
     {
         term_value(self.regs.as_slice(), &self.memory, term)
     }
 
     /// The value of an expression as a pointer or a length, where it has one.
     pub fn natural(&self, term: &Term) -> Option<u64>
-        ensures { result ≡ natural_of self.now.regs.items (memory_view self.now.memory) (term_view term.now) }
+        ensures { result ≡ natural_of self.now.regs.items self.now.memory (term_view term.now) }
     {
         natural_value(self.regs.as_slice(), &self.memory, term)
     }
@@ -58,12 +58,12 @@ impl Now {
     /// Whether a write of that length at the place is allowed by the innermost set. One that isn't inside a live object,
     /// or is empty, is no write.
     pub fn is_covered(&self, place: Option<u64>, len: Option<u64>) -> bool
-        ensures { result ≡ covered (reverse (map set_view self.now.sets.items)) (memory_view self.now.memory) place len }
+        ensures { result ≡ covered (reverse (map set_view self.now.sets.items)) self.now.memory place len }
     {
         let (Some(pointer), Some(len)) = (place, len) else {
             return true;
         };
-        if len == 0 || !self.memory.is_inside(pointer, len) {
+        if len == 0 || !self.memory.inside(pointer, len) {
             return true;
         }
         match self.sets.as_slice() {
@@ -79,7 +79,7 @@ impl Now {
     {
         let pointer = self.natural(place)?;
         let value = self.value(value)?;
-        if self.memory.store(kind, pointer, convert(kind, value)) {
+        if self.memory.store(pointer, mem_kind(kind), value) {
             Some(pointer)
         } else {
             None

@@ -119,7 +119,8 @@ fn run_program<C: Chooser, W: Watch>(
 ///
 /// The report is the run on the numbers that it took; where the chooser tells the numbers to come, the run on all of them
 /// is the same. The room for a number is taken before the number, so that none is lost where memory is wanting: then the
-/// watch has heard the first events of the run on those that were taken.
+/// watch has heard the first events of the run on those that were taken. An object of more than 16,777,216 bytes, and more
+/// than 65,535 functions and variables, count as want of memory.
 pub fn run_goto<C: Chooser, W: Watch>(
     alloc: Global,
     p: &GotoProgram,

@@ -1,15 +1,16 @@
 // The values of expressions.
 ghost use Rattle.std.specs.Prelude.{◌≡◌, pos, map, Some, slice_get, IfOk, option_map};
-ghost use Rattle.dc_core.specs.Memory.{start_of};
 ghost use Rattle.dc_core.specs.Contract.{holds as value_holds};
 ghost use Rattle.dc_core.specs.View.{term_view};
+ghost use Rattle.dc_memory.specs.Places.{start_of};
 ghost use Rattle.dc_num.specs.Operators.{IsRight};
 ghost use Rattle.dc_goto.specs.Machine.{register_value, right_operand, operated, term_value as value_of, natural_value as natural_of, term_values as values_of};
-ghost use Rattle.dc_world.specs.View.{memory_view};
 
 use dc_core::{BinOp, NumKind, Term};
+use dc_memory::Store;
 use dc_num::{bits, convert};
-use dc_world::{Memory, compute};
+use dc_program::mem_kind;
+use dc_world::compute;
 use sqlite_items::at;
 use std::alloc::{AllocError, Global};
 
@@ -24,7 +25,7 @@ fn register(regs: &[Option<i128>], number: u64) -> Option<i128>
 }
 
 // The pointer to the start of an object.
-#[tactic(auto, unfolding(dc_core::specs::Memory::start_of))]
+#[tactic(auto, unfolding(dc_memory::specs::Places::start_of))]
 pub fn start(number: u64) -> i128
     ensures { result ≡ pos (start_of number) }
 {
@@ -50,8 +51,8 @@ fn operate(op: BinOp, kind: NumKind, a: i128, b: i128) -> Option<i128>
 }
 
 /// The value of an expression, where it has one.
-pub fn term_value(regs: &[Option<i128>], memory: &Memory, term: &Term) -> Option<i128>
-    ensures { result ≡ value_of regs.now (memory_view memory.now) (term_view term.now) }
+pub fn term_value(regs: &[Option<i128>], memory: &Store, term: &Term) -> Option<i128>
+    ensures { result ≡ value_of regs.now memory.now (term_view term.now) }
 {
     match term {
         Term::Constant(_, z) => Some(*z),
@@ -59,7 +60,7 @@ pub fn term_value(regs: &[Option<i128>], memory: &Memory, term: &Term) -> Option
         Term::Object(number) => Some(start(*number)),
         Term::Load(kind, place) => {
             let place = term_value(regs, memory, place.get())?;
-            memory.load(*kind, bits(NumKind::U64, place))
+            memory.load(bits(NumKind::U64, place), mem_kind(*kind))
         }
         Term::Binary(op, kind, a, b) => {
             let a = term_value(regs, memory, a.get())?;
@@ -70,8 +71,8 @@ pub fn term_value(regs: &[Option<i128>], memory: &Memory, term: &Term) -> Option
 }
 
 /// The value of an expression as a pointer or a length, where it has one.
-pub fn natural_value(regs: &[Option<i128>], memory: &Memory, term: &Term) -> Option<u64>
-    ensures { result ≡ natural_of regs.now (memory_view memory.now) (term_view term.now) }
+pub fn natural_value(regs: &[Option<i128>], memory: &Store, term: &Term) -> Option<u64>
+    ensures { result ≡ natural_of regs.now memory.now (term_view term.now) }
 {
     match term_value(regs, memory, term) {
         None => None,
@@ -93,10 +94,10 @@ pub fn holds(value: Option<i128>) -> bool
 pub fn term_values(
     alloc: Global,
     regs: &[Option<i128>],
-    memory: &Memory,
+    memory: &Store,
     terms: &[Term],
 ) -> Result<Option<Vec<Option<i128>>>, AllocError>
-    ensures { IfOk result (λ o. option_map (λ v. v.items) o ≡ option_map (map Some) (values_of regs.now (memory_view memory.now) (map term_view terms.now))) }
+    ensures { IfOk result (λ o. option_map (λ v. v.items) o ≡ option_map (map Some) (values_of regs.now memory.now (map term_view terms.now))) }
 {
     let mut values = Vec::new(alloc);
     for term in terms {

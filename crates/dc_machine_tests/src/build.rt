@@ -154,6 +154,22 @@ fn start_program(alloc: Global, regs: u64, code: Items<Instr>) -> Result<GotoPro
     program(alloc, bodies)
 }
 
+/// A start that makes an object of that many bytes.
+pub fn local_program(alloc: Global, size: u64) -> Result<GotoProgram, AllocError> {
+    let mut code = Items::new(alloc);
+    code.push(Instr::LocalZero(0, size))?;
+    code.push(Instr::Return(None))?;
+    start_program(alloc, 1, code)
+}
+
+/// A start that draws the variable's bytes, and returns the int that they are.
+pub fn variable_program(alloc: Global) -> Result<GotoProgram, AllocError> {
+    let mut code = Items::new(alloc);
+    code.push(Instr::Statics)?;
+    code.push(Instr::Return(Some(load(alloc, Term::Object(2))?)))?;
+    start_program(alloc, 0, code)
+}
+
 // A number as a constant of 64 bits.
 fn wide(z: i128) -> Term {
     let kind = if z < 0 { NumKind::S64 } else { NumKind::U64 };

@@ -1,6 +1,7 @@
 // Runs.
 use crate::build::{
-    adding_program, bodiless_program, endless_program, set_program, startless_program,
+    adding_program, bodiless_program, endless_program, local_program, set_program,
+    startless_program, variable_program,
 };
 use dc_choice::{CountWatch, ListChooser};
 use dc_goto::GotoProgram;
@@ -237,5 +238,35 @@ fn one_object_too_many(rt: HostRuntime) -> Result<(), Fail> {
     let report = run(rt.alloc(), &p, list.as_slice(), 1000)?;
     assert_eq!(rt; word(&report.end), "returned");
     assert_eq!(rt; counted(&report), [65538, 65533, 1, 1, 0, 2, 1, 1]);
+    Ok(())
+}
+
+// Sizes that an object may have, and some that are answered as want of memory.
+const SIZES: [(u64, bool); 4] = [
+    (0, true),
+    (16777216, true),
+    (16777217, false),
+    (18446744073709551615, false),
+];
+
+#[test]
+fn the_greatest_object(rt: HostRuntime) -> Result<(), Fail> {
+    for (size, fits) in &SIZES {
+        let p = local_program(rt.alloc(), *size)?;
+        let ended = run(rt.alloc(), &p, &[], 10).is_ok();
+        assert_eq!(rt; ended, *fits, "{}", size);
+    }
+    Ok(())
+}
+
+#[test]
+fn variables_are_drawn_in_place(rt: HostRuntime) -> Result<(), Fail> {
+    let p = variable_program(rt.alloc())?;
+    let report = run(rt.alloc(), &p, &[1, 2, 259, 4], 10)?;
+    let value = match report.end {
+        End::Returned(value) => value,
+        _ => None,
+    };
+    assert_eq!(rt; value, Some(67305985));
     Ok(())
 }

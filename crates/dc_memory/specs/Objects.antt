@@ -31,6 +31,10 @@ pub record IsMemory (memory : Memory) : Type 0 where
 abbrev pub created : ObjKind → Bool → ℕ → Object
 created kind live size = record { kind = kind; live = live; bytes = replicate size 0 }
 
+-- a live object of these bytes
+abbrev pub holding : ObjKind → List ℕ → Object
+holding kind bytes = record { kind = kind; live = true; bytes = bytes }
+
 -- a dead object keeps its kind and has no bytes
 abbrev pub killed : Object → Object
 killed object = record { kind = object.kind; live = false; bytes = [] }

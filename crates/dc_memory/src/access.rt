@@ -74,8 +74,8 @@ impl Store {
         true
     }
 
-    // Writes bytes at a place.
-    fn put(&mut self, ptr: u64, values: &[u8])
+    /// Writes these bytes at a place where they are wholly inside one live object.
+    pub fn put(&mut self, ptr: u64, values: &[u8])
         requires { is_inside self.old ptr (length values.now) ≡ true }
         ensures { self.new ≡ written ptr values.now self.old }
     {

@@ -37,6 +37,13 @@ impl Bytes {
         Ok(Bytes { bytes })
     }
 
+    // The bytes of a vector.
+    pub(crate) fn of(bytes: Vec<u8>) -> Bytes
+        ensures { result ≡ bytes.items }
+    {
+        Bytes { bytes }
+    }
+
     // The bytes.
     pub(crate) fn as_slice(&self) -> &[u8]
         ensures { result.now ≡ self.now }

@@ -12,4 +12,5 @@ mod store;
 
 pub use kind::MemKind;
 pub use object::{ObjKind, Object};
+pub use pointer::{object_number, offset};
 pub use store::{Create, Store};

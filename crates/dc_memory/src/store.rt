@@ -1,7 +1,7 @@
 // The store: objects by their numbers.
-ghost use Rattle.std.specs.Prelude.{◌≡◌, ◌≤◌, ◌+◌, ◌↔◌, true, false, [], ◌∷◌, ◌++◌, length, option_map, option_copied, IfOk, OnErr, Err, IfSome, Some};
+ghost use Rattle.std.specs.Prelude.{◌≡◌, ◌<◌, ◌≤◌, ◌+◌, ◌↔◌, true, false, [], ◌∷◌, ◌++◌, length, nat_eq, option_map, option_copied, IfOk, OnOk, OnErr, Err, IfSome, Some};
 ghost use Rattle.dc_memory.specs.declared.store.Create.TheVariants.{Memory};
-ghost use Rattle.dc_memory.specs.Objects.{IsMemory, created, killed, object_at, changed, is_live, is_function, seen as seen_of};
+ghost use Rattle.dc_memory.specs.Objects.{IsMemory, IsObject, created, function_kind, holding, killed, object_at, changed, is_live, is_function, seen as seen_of};
 ghost use Rattle.dc_memory.specs.Places.{is_inside};
 
 use crate::bytes::Bytes;
@@ -68,6 +68,26 @@ impl Store {
         self.objects.len() as u64
     }
 
+    // Whether there may be no more objects.
+    fn is_full(&self) -> bool
+        ensures value { result ≡ nat_eq (length self.now) 65535 }
+        ensures memory { IsMemory self.now }
+    {
+        self.objects.len() == 65535
+    }
+
+    // Adds an object where there may be one more, and answers its number.
+    fn add(&mut self, object: Object) -> Result<u64, AllocError>
+        requires few { length self.old < 65535 }
+        requires formed { IsObject object }
+        ensures number { IfOk result (λ number. number ≡ length self.old + 1) }
+        ensures ok { OnOk result (self.new ≡ self.old ++ object ∷ []) }
+        ensures refused { OnErr result (self.new ≡ self.old) }
+    {
+        self.objects.push(object)?;
+        Ok(self.objects.len() as u64)
+    }
+
     /// Adds an object of so many bytes, all zero, and answers its number: one more than there were. It has at most
     /// 16,777,216 bytes, none where it is dead, and a function is live and has none. `Full` comes exactly where there are
     /// 65,535 objects, and `Memory` where there is no memory; after either nothing has changed.
@@ -80,15 +100,31 @@ impl Store {
         ensures full { (result ≡ Err Create.Full) ↔ (length self.old ≡ 65535) }
         ensures refused { OnErr result (self.new ≡ self.old) }
     {
-        let count = self.objects.len() as u64;
-        if count == 65535 {
+        if self.is_full() {
             return Err(Create::Full);
         }
         let alloc = *self.objects.allocator();
         let bytes = Bytes::zeros(alloc, size as usize)?;
-        let object = Object { kind, live, bytes };
-        self.objects.push(object).map_err(AllocError::from)?;
-        Ok(count + 1)
+        Ok(self.add(Object { kind, live, bytes })?)
+    }
+
+    /// Adds a live object of these bytes, at most 16,777,216, which is no function, and answers its number: one more than
+    /// there were. `Full` comes exactly where there are 65,535 objects, and `Memory` where there is no memory; after
+    /// either nothing has changed.
+    pub fn create_with(&mut self, kind: ObjKind, bytes: Vec<u8>) -> Result<u64, Create>
+        requires small { length bytes.items ≤ 16777216 }
+        requires plain { function_kind kind ≡ false }
+        ensures number { IfOk result (λ number. number ≡ length self.old + 1) }
+        ensures ok { IfOk result (λ _. self.new ≡ self.old ++ holding kind bytes.items ∷ []) }
+        ensures full { (result ≡ Err Create.Full) ↔ (length self.old ≡ 65535) }
+        ensures refused { OnErr result (self.new ≡ self.old) }
+    {
+        if self.is_full() {
+            return Err(Create::Full);
+        }
+        let bytes = Bytes::of(bytes);
+        let live = true;
+        Ok(self.add(Object { kind, live, bytes })?)
     }
 
     /// Makes a live object dead that is no function. It keeps its number and its kind, and its bytes are gone

@@ -1,6 +1,6 @@
 // Objects are created, looked at and killed.
 use crate::stores::{FIRST, has_bytes, killed};
-use dc_memory::{Create, MemKind, ObjKind, Store};
+use dc_memory::{Create, MemKind, ObjKind, Store, object_number, offset};
 use std::test::Fail;
 
 #[test]
@@ -38,6 +38,23 @@ fn each_kind(rt: HostRuntime) -> Result<(), Fail> {
     assert_eq!(rt; store.look(18446744073709551615), None);
     assert!(rt; store.bytes(0).is_none());
     assert!(rt; store.bytes(5).is_none());
+    Ok(())
+}
+
+// An object has the bytes that it is created with, and others that are put there.
+#[test]
+fn given_bytes(rt: HostRuntime) -> Result<(), Fail> {
+    let mut store = Store::new(rt.alloc());
+    let bytes = Vec::from_slice(rt.alloc(), b"\x01\x02\x03")?;
+    assert_eq!(rt; store.create_with(ObjKind::Stack, bytes)?, 1);
+    assert_eq!(rt; store.look(1), Some((ObjKind::Stack, true, 3)));
+    assert!(rt; has_bytes(&store, 1, b"\x01\x02\x03"));
+    if store.inside(FIRST + 1, 2) {
+        store.put(FIRST + 1, b"\x08\x09");
+    }
+    assert!(rt; has_bytes(&store, 1, b"\x01\x08\x09"));
+    assert_eq!(rt; object_number(FIRST + 1), 1);
+    assert_eq!(rt; offset(FIRST + 1), 1);
     Ok(())
 }
 

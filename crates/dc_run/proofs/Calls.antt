@@ -1,14 +1,19 @@
 -- Calls in parts.
-use Rattle.std.proofs.Common.{◌≡◌, ℕ, ◌<◌, ◌≤◌, Bool, true, false, ℤ, List, [], ◌∷◌, ◌++◌, length, map, refl, ap, sym, ◌∙◌, arith, append-nil, append_assoc, ◌+◌, reverse, get_or, drop, drop-cons, add-one}
+use Rattle.std.proofs.Common.{◌≡◌, ℕ, suc, ◌<◌, ◌≤◌, Bool, true, false, ℤ, List, [], ◌∷◌, ◌++◌, length, map, refl, ap, sym, ◌∙◌, arith, append-nil, append_assoc, ◌+◌, reverse, get_or, drop, drop-cons, add-one}
 use Rattle.std.specs.Prelude.{Result, Ok, Err, IfOk, IsErr}
 use Rattle.std.proofs.lemmas.Bool.Decides.{nat_tests}
 use Rattle.dc_core.specs.Event as plain
 use Rattle.dc_core.specs.Event.{Event}
 use Rattle.dc_core.specs.Assertion.{postcondition_name}
 use Rattle.dc_core.specs.Contract.{holds}
-use Rattle.dc_core.specs.Memory.{Memory, start_of, object_limit, changed, killed}
-use Rattle.dc_core.specs.View.{expr_view}
-use Rattle.dc_core.specs.declared.program.Expr as code
+use Rattle.dc_memory.specs.declared.kind.MemKind.TheVariants.{S32}
+use Rattle.dc_memory.specs.declared.object.ObjKind.TheVariants.{Stack}
+use Rattle.dc_memory.specs.Objects.{Memory, changed, holding}
+use Rattle.dc_memory.specs.Encoding.{encoded}
+use Rattle.dc_core.specs.Objects.{died}
+use Rattle.dc_memory.specs.Places.{start_of}
+use Rattle.dc_core.specs.View.{clause_view}
+use Rattle.dc_program.specs.declared.contract.Clause as code
 use Rattle.dc_core.specs.Program.{Function}
 use Rattle.dc_core.specs.Run.{State, Out, Normal, Returned, Ended, Cut, Note, Did, noted, notes_of, contract_mode, with_parameter, with_parameters, finished, leaving, ensured, checked, tested}
 use Rattle.dc_core.specs.Value.{Scope, Clause, value}
@@ -27,12 +32,17 @@ use Rattle.dc_run.proofs.Parts.{told-two, cut_behind}
 -- Parameters ------------------------------------------------------------------------------------------------------
 
 not_full : (w : World) → length w.memory < 65535 → is_full w ≡ false
-unfolding object_limit
 not_full w h = grind (arith, nat_tests)
 
 full : (w : World) → 65535 ≤ length w.memory → is_full w ≡ true
-unfolding object_limit
 full w h = grind (arith, nat_tests)
+
+-- a parameter's object is the newest
+pub parameter_pushed : (m new : Memory) (locals locals' choices : List ℕ) (steps number : ℕ) (z : ℤ) → new ≡ m ++ holding Stack (encoded S32 z) ∷ [] → locals' ≡ locals ++ number ∷ [] → number ≡ length m + 1
+    → ◌≡◌ {A = State} (record { world = record { memory = new; choices = choices; locals = reverse locals' }; left = steps }) (with_parameter z (record { world = record { memory = m; choices = choices; locals = reverse locals }; left = steps }))
+parameter_pushed m new locals locals' choices steps number z e f count =
+    let next : number ≡ suc (length m) = omega (arith, count) in
+    rw (e, f, reverse-append locals (number ∷ []), next) refl
 
 pub parameters_more : (all rest : List ℤ) (v : ℤ) (places : List ℕ) (st : State) (go : List ℕ → State → Out Note) → all ≡ v ∷ rest → length st.world.memory < 65535
     → with_parameters contract_mode all places st go
@@ -157,7 +167,7 @@ come_left w outer g before after h k l a b = record {
 newest : (locals rest : List ℕ) (object : ℕ) → locals ≡ rest ++ object ∷ [] → reverse locals ≡ object ∷ reverse rest
 newest locals rest object e = rw e (reverse-append rest (object ∷ []))
 
-pub dies_more : (m m' : Memory) (choices locals rest : List ℕ) (object : ℕ) → locals ≡ rest ++ object ∷ [] → m' ≡ changed object killed m
+pub dies_more : (m m' : Memory) (choices locals rest : List ℕ) (object : ℕ) → locals ≡ rest ++ object ∷ [] → m' ≡ changed object died m
     → ◌≡◌ {A = World} (left [] (record { memory = m'; choices = choices; locals = reverse rest })) (left [] (record { memory = m; choices = choices; locals = reverse locals }))
 dies_more m m' choices locals rest object e f = rw (newest locals rest object e, f) refl
 
@@ -215,8 +225,8 @@ told_more all rest rest' xs h k l p e t = record {
   heard = told-two p.notes xs h k l p.heard t;
 }
 
-pub tested_more : (name : List ℕ) (k : ℕ) (scope : Scope) (memory : Memory) (all rest : List code.Expr) (x : code.Expr) → all ≡ x ∷ rest
-    → tested name k scope memory (map expr_view all) ≡ checked (postcondition_name name k) (holds (value scope memory (expr_view x))) ++ tested name (k + 1) scope memory (map expr_view rest)
+pub tested_more : (name : List ℕ) (k : ℕ) (scope : Scope) (memory : Memory) (all rest : List code.Clause) (x : code.Clause) → all ≡ x ∷ rest
+    → tested name k scope memory (map clause_view all) ≡ checked (postcondition_name name k) (holds (value scope memory (clause_view x))) ++ tested name (k + 1) scope memory (map clause_view rest)
 tested_more name k scope memory all rest x e = rw (e, add-one k) refl
 
 pub clause_checked : (name : List ℕ) (k : ℕ) (check : List ℕ) (held held' : Bool) (h h' : Hearing) → h' ≡ told (checked check held) h → check ≡ postcondition_name name k → held ≡ held'

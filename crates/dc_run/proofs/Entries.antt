@@ -1,27 +1,29 @@
 -- What is drawn at entry.
 use Rattle.std.proofs.Common.{◌≡◌, ℕ, zero, suc, ◌-◌, ◌<◌, ◌≤◌, List, [], ◌∷◌, ◌++◌, length, map, refl, ap, sym, ◌∙◌, arith, subst, append-nil, length-append}
 use Rattle.std.proofs.Math.Nat.{mod-lt}
-use Rattle.std.specs.Prelude.{replicate, take, drop}
+use Rattle.std.specs.Prelude.{replicate}
 use Rattle.dc_core.specs.Choices.{Drawn, Drew, Dry, Draws, ◌>>=◌, bind, give, draw, draw_bytes, after}
 use Rattle.dc_core.specs.Event.{Event}
-use Rattle.dc_core.specs.Memory.{Memory, function_object, object_limit}
+use Rattle.dc_memory.specs.Objects.{Memory}
+use Rattle.dc_core.specs.Objects.{function_object}
 use Rattle.dc_core.specs.Entry.{static_objects, static_sizes, outside_object, outside_objects, with_outside, entry_memory}
 use Rattle.dc_core.specs.Program.{Program}
 use Rattle.dc_world.specs.Told.{Supply, Hearing}
 use Rattle.dc_world.specs.Drawing.{HasDrawn}
+use Rattle.dc_program.specs.declared.program.StaticVariable.{StaticVariable}
 use Rattle.dc_run.specs.Entry.{drawn_variables}
 
 -- how many variables there are, as sizes
-pub sizes_of : (xs : List (List ℕ)) (n : ℕ) → n ≡ length xs → replicate {A = ℕ} n 4 ≡ map {A = List ℕ} {B = ℕ} (λ name. 4) xs
+pub sizes_of : (xs : List StaticVariable) (n : ℕ) → n ≡ length xs → replicate {A = ℕ} n 4 ≡ map {A = List ℕ} {B = ℕ} (λ name. 4) (map (λ v. v.name) xs)
 sizes_of [] n e = rw e refl
 sizes_of (x ∷ xs) n e = rw e (ap (λ l. 4 ∷ l) (sizes_of xs (length xs) refl))
 
-pub sizes_made : (made : List ℕ) (n : ℕ) (xs : List (List ℕ)) → made ≡ replicate {A = ℕ} n 4 → n ≡ length xs → made ≡ map {A = List ℕ} {B = ℕ} (λ name. 4) xs
+pub sizes_made : (made : List ℕ) (n : ℕ) (xs : List StaticVariable) → made ≡ replicate {A = ℕ} n 4 → n ≡ length xs → made ≡ map {A = List ℕ} {B = ℕ} (λ name. 4) (map (λ v. v.name) xs)
 sizes_made made n xs a e = a ∙ sizes_of xs n e
 
 -- objects behind the function
-pub behind_function : (m m' objects : Memory) → m ≡ function_object ∷ [] → m' ≡ take 1 m ++ (objects ++ drop 1 m) → m' ≡ function_object ∷ objects
-behind_function m m' objects e f = f ∙ rw e (ap (λ l. function_object ∷ l) (append-nil objects))
+pub behind_function : (m m' objects : Memory) → m ≡ function_object ∷ [] → m' ≡ m ++ objects → m' ≡ function_object ∷ objects
+behind_function m m' objects e f = f ∙ rw e refl
 
 outside_parts : (d : Drawn Memory) → bind d (λ statics. with_outside (function_object ∷ statics)) ≡ bind (bind d (λ statics. give (function_object ∷ statics))) with_outside
 outside_parts (Drew v r es) = ap (λ l. after l (with_outside (function_object ∷ v) r)) (sym (append-nil es))
@@ -69,7 +71,7 @@ draw_below k [] h = tt
 draw_below k (x ∷ choices) h = mod-lt x h
 
 few_objects : (memory : Memory) (choices : List ℕ) → length memory ≤ 65535 → EachDrawn (λ objects. length objects ≤ 65535) (with_outside memory choices)
-unfolding with_outside object_limit
+unfolding with_outside
 few_objects memory choices h =
     each_bind (λ n. n < 65536 - length memory) (λ objects. length objects ≤ 65535) (draw (65536 - length memory) choices) _ (draw_below (65536 - length memory) choices (omega arith))
     (λ count rest lt. each_bind (λ objects. length objects ≡ count) (λ objects. length objects ≤ 65535) (outside_objects (suc (length memory)) count rest) _ (count_outside (suc (length memory)) count rest)

@@ -1,8 +1,15 @@
 -- Places from 2^64 on: so few objects have none there.
-use Rattle.std.proofs.Common.{◌≡◌, ℕ, zero, suc, ◌^◌, ◌<◌, ◌≤◌, true, false, List, [], ◌∷◌, length, Option, Some, None, refl, ap, sym, ◌∙◌, arith, ℤ, append-nil}
-use Rattle.std.specs.Prelude.{if◌then◌else◌, Bool}
-use Rattle.dc_num.specs.declared.kind.NumKind.TheVariants.{S32}
-use Rattle.dc_core.specs.Memory.{Object, Memory, object_of, offset_of, object_at, update, changed, with_bytes, holds_range, is_inside, encoded, load, store, killed, kill_all}
+use Rattle.std.proofs.Common.{◌≡◌, ℕ, zero, suc, ◌+◌, ◌*◌, ◌++◌, ◌^◌, ◌<◌, ◌≤◌, true, false, List, [], ◌∷◌, length, Option, Some, None, refl, ap, sym, ◌∙◌, arith, ℤ, append-nil}
+use Rattle.std.specs.Prelude.{if◌then◌else◌, Bool, replicate}
+use Rattle.dc_memory.specs.declared.kind.MemKind.TheVariants.{S32}
+use Rattle.dc_memory.specs.declared.object.Object.{Object}
+use Rattle.dc_memory.specs.declared.object.ObjKind.TheVariants.{Stack}
+use Rattle.dc_memory.specs.Objects.{Memory, object_at, update, changed, holding}
+use Rattle.dc_memory.specs.Places.{object_of, offset_of, with_bytes, holds_range, is_inside, start_of}
+use Rattle.dc_memory.specs.Encoding.{encoded}
+use Rattle.dc_memory.specs.Access.{load, store, IsWritten}
+use Rattle.dc_core.specs.Objects.{died, kill_all}
+use Rattle.dc_core.proofs.Objects.{store-new}
 use Rattle.dc_core.specs.Contract.{WriteSet, with_ranges, denoted}
 
 object_of-large : (place : ℕ) → 2 ^ 64 ≤ place → 65535 < object_of place
@@ -55,4 +62,17 @@ length-store memory new place z h =
 
 pub length-kill_all : (objects : List ℕ) (memory : Memory) → length (kill_all objects memory) ≡ length memory
 length-kill_all [] memory = refl
-length-kill_all (o ∷ objects) memory = length-kill_all objects (changed o killed memory) ∙ length-changed o killed memory
+length-kill_all (o ∷ objects) memory = length-kill_all objects (changed o died memory) ∙ length-changed o died memory
+
+-- a new object of four bytes that gets an int
+pub int_pushed : (m zeros stored : Memory) (number pointer : ℕ) (z : ℤ) (b : Bool) → number ≡ length m + 1 → pointer ≡ number * 2 ^ 48 → zeros ≡ m ++ holding Stack (replicate 4 0) ∷ []
+    → IsWritten b (store S32 pointer z zeros) zeros stored → stored ≡ m ++ holding Stack (encoded S32 z) ∷ []
+unfolding start_of
+int_pushed m zeros stored number pointer z b count place new is =
+    let start : pointer ≡ start_of (suc (length m)) = omega (arith, count, place) in
+    let fits : store S32 pointer z zeros ≡ Some (m ++ holding Stack (encoded S32 z) ∷ []) = rw (start, new) (store-new m z) in
+    by b (store S32 pointer z zeros) fits is
+  where
+    by : (b : Bool) (o : Option Memory) → o ≡ Some (m ++ holding Stack (encoded S32 z) ∷ []) → IsWritten b o zeros stored → stored ≡ m ++ holding Stack (encoded S32 z) ∷ []
+    by true o e w = cc
+    by false o e w = absurd (let none : None ≡ Some (m ++ holding Stack (encoded S32 z) ∷ []) = sym w.0 ∙ e in cc)

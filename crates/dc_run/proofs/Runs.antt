@@ -6,10 +6,10 @@ use Rattle.dc_core.specs.Event as plain
 use Rattle.dc_core.specs.Event.{Event}
 use Rattle.dc_core.specs.Choices.{Drawn, Drew, Dry, ◌>>=◌, give, bind, after}
 use Rattle.dc_core.specs.Contract.{all_hold}
-use Rattle.dc_core.specs.Memory.{Memory}
+use Rattle.dc_memory.specs.Objects.{Memory}
 use Rattle.dc_core.specs.Entry.{entry_memory, draw_arguments}
 use Rattle.dc_core.specs.Outcome.{Outcome}
-use Rattle.dc_core.specs.Program.{Program}
+use Rattle.dc_core.specs.Program.{Function, Program}
 use Rattle.dc_core.specs.Run.{State, Out, Normal, Returned, Ended, Cut, Note, Did, noted, notes_of, entered, with_entry, with_arguments, required, with_memory, with_choices, contract_from, start_state, contract_run, plain_report, seen, seen_out, event_of, name_of}
 use Rattle.dc_core.specs.Value.{Clause}
 use Rattle.dc_core.specs.World.{World}
@@ -245,6 +245,20 @@ cut_short run (Err e) s s' h h' a = record {
 
 pub parts_refused : (run : List ℕ → Outcome) (s s' : Supply) (h h' : Hearing) → WasRefused run s s' h h' → h'.parts ≡ h.parts
 parts_refused run s s' h h' a = ap (λ k. k.parts) a.heard ∙ told-parts a.notes h
+
+-- a call of a function is one of what is seen of it
+pub come_with : (f g : Function) (arguments : List ℤ) (state after : List ℕ → State) (flow : Flow) (h h' : Hearing) → g ≡ f → HasCome (λ choices. admitted f arguments (state choices)) after flow h h' → HasCome (λ choices. admitted g arguments (state choices)) after flow h h'
+come_with f g arguments state after flow h h' e a = subst (λ f. HasCome (λ choices. admitted f arguments (state choices)) after flow h h') (sym e) a
+
+pub cut_with : (f g : Function) (arguments : List ℤ) (state : List ℕ → State) (h h' : Hearing) → g ≡ f → WasCutOff (λ choices. admitted f arguments (state choices)) h h' → WasCutOff (λ choices. admitted g arguments (state choices)) h h'
+cut_with f g arguments state h h' e a = subst (λ f. WasCutOff (λ choices. admitted f arguments (state choices)) h h') (sym e) a
+
+pub run_parts : {E : Type 0} (run : List ℕ → Outcome) (r : Result End E) (s s' : Supply) (h h' : Hearing) → IsRun run r s s' h h' → h'.parts ≡ h.parts
+run_parts run (Ok end) s s' h h' a = parts_after run (end_view end) s s' h h' a
+run_parts run (Err e) s s' h h' a = parts_refused run s s' h h' a
+
+pub run_of_said : {E : Type 0} (p q : Program) (n : ℕ) (r : Result End E) (s s' : Supply) (h h' : Hearing) → p ≡ q → IsRun (contract_run p n) r s s' h h' → IsRun (contract_run q n) r s s' h h'
+run_of_said p q n r s s' h h' e a = subst (λ p. IsRun (contract_run p n) r s s' h h') e a
 
 pub ok_map : {T E : Type 0} {P Q : T → Type 0} (r : Result T E) → ((v : T) → P v → Q v) → IfOk r P → IfOk r Q
 ok_map (Ok v) f p = f v p

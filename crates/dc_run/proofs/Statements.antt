@@ -1,16 +1,25 @@
 -- Statements one after another, and what is told of a write.
-use Rattle.std.proofs.Common.{◌≡◌, ℕ, zero, suc, Bool, ℤ, List, ◌∷◌, map, Some, refl}
+use Rattle.std.proofs.Common.{◌≡◌, ℕ, zero, suc, Bool, ℤ, List, [], ◌∷◌, map, Some, None, refl, sym, ap, ◌∙◌}
+use Rattle.std.specs.Prelude.{Result, Ok, Err, IfOk}
 use Rattle.dc_core.specs.Assertion.{assigns_name}
 use Rattle.dc_core.specs.Contract.{WriteSet, allowed, claimed, judged}
 use Rattle.dc_core.specs.Event as plain
-use Rattle.dc_core.specs.Memory.{Memory, object_of, offset_of, store}
+use Rattle.dc_core.specs.First.{no_act}
+use Rattle.dc_memory.specs.Objects.{Memory}
+use Rattle.dc_memory.specs.Places.{object_of, offset_of}
+use Rattle.dc_memory.specs.Access.{store}
 use Rattle.dc_core.specs.Program.{Expr, Stmt, Assign}
 use Rattle.dc_core.specs.Value.{Body, value, place}
-use Rattle.dc_core.specs.Run.{State, Out, Normal, Note, Did, Failed, tick, tick_at, then_do, contract_mode, with_memory, write, perform, run}
-use Rattle.dc_num.specs.declared.kind.NumKind.TheVariants.{S32}
+use Rattle.dc_core.proofs.NoValue.{nothing_seen}
+use Rattle.dc_core.specs.Run.{State, Out, Normal, Returned, Ended, Note, Did, Failed, notes_of, with_some, tick, tick_at, then_do, contract_mode, with_memory, write, perform, run}
+use Rattle.dc_memory.specs.declared.kind.MemKind.TheVariants.{S32}
 use Rattle.dc_world.specs.Told.{Hearing, told}
 use Rattle.dc_run.specs.declared.state.Flow.TheVariants as flow
-use Rattle.dc_run.specs.Part.{HasCome}
+use Rattle.dc_world.specs.declared.report.End.TheVariants as end
+use Rattle.dc_world.specs.Reported.{dry_at}
+use Rattle.dc_run.specs.declared.state.Flow.{Flow}
+use Rattle.dc_run.specs.Part.{HasCome, IsPart, end_of, out_of}
+use Rattle.dc_run.proofs.Parts.{part_same}
 
 -- an int was written
 pub written_part : (name : List ℕ) (set : WriteSet) (site place : ℕ) (v : ℤ) (before after : List ℕ → State) (memory new : Memory) (h h' : Hearing)
@@ -51,3 +60,50 @@ tick_then st (suc k) f go = refl
 pub run_more : (name : List ℕ) (set : WriteSet) (places : List ℕ) (all rest : List Stmt) (s : Stmt) (st : State) → all ≡ s ∷ rest
     → run contract_mode name set places all st ≡ then_do (tick st (perform contract_mode name set places s)) (run contract_mode name set places rest)
 run_more name set places all rest s st e = rw e (tick_then st st.left (perform contract_mode name set places s) (run contract_mode name set places rest))
+
+-- a statement that is seen as another
+pub stmt_done : {E : Type 0} (name : List ℕ) (set : WriteSet) (places : List ℕ) (s t : Stmt) (before after : List ℕ → State) (r : Result Flow E) (h h' : Hearing)
+    → s ≡ t → IsPart (λ choices. perform contract_mode name set places t (before choices)) after r h h'
+    → IsPart (λ choices. perform contract_mode name set places s (before choices)) after r h h'
+stmt_done name set places s t before after r h h' e a =
+    part_same (λ choices. perform contract_mode name set places s (before choices)) (λ choices. perform contract_mode name set places t (before choices)) after r h h'
+    (λ choices. ap (λ s. perform contract_mode name set places s (before choices)) e) a
+
+-- a statement at which the run ends
+pub undefined_done : {E : Type 0} (name : List ℕ) (set : WriteSet) (places : List ℕ) (s : Stmt) (state : List ℕ → State) (r : Result Flow E) (h : Hearing)
+    → ((choices : List ℕ) → perform contract_mode name set places s (state choices) ≡ Ended [] (plain.Undefined name) (state choices).world)
+    → IfOk r (λ f. f ≡ flow.Ended (end.Undefined name))
+    → IsPart (λ choices. perform contract_mode name set places s (state choices)) state r h h
+undefined_done name set places s state (Ok f) h e u = record {
+  notes = [];
+  comes = λ choices. e choices ∙ sym (ap (λ f. out_of f [] (state choices)) u);
+  not_dry = ap (λ f. dry_at (end_of f)) u;
+  heard = refl;
+}
+undefined_done name set places s state (Err x) h e u = record {
+  notes = [];
+  front = λ choices. (notes_of (perform contract_mode name set places s (state choices)), refl);
+  heard = refl;
+}
+
+-- one that isn't of the first form
+pub nothing_done : {E : Type 0} (name : List ℕ) (set : WriteSet) (places : List ℕ) (s : Stmt) (state : List ℕ → State) (r : Result Flow E) (h : Hearing)
+    → s ≡ no_act → IfOk r (λ f. f ≡ flow.Ended (end.Undefined name))
+    → IsPart (λ choices. perform contract_mode name set places s (state choices)) state r h h
+nothing_done name set places s state r h e u =
+    undefined_done name set places s state r h
+    (λ choices.
+    ap (λ s. perform contract_mode name set places s (state choices)) e
+    ∙ ap (λ o. with_some {A = Note} (plain.Undefined name) (state choices).world o (λ v. Returned [] (Some v) (state choices))) (nothing_seen (Body places) (state choices).world.memory))
+    u
+
+-- an assignment of what has no value, or to what has no place
+pub valueless : (name : List ℕ) (set : WriteSet) (places : List ℕ) (site : ℕ) (target e : Expr) (st : State)
+    → None ≡ value (Body places) st.world.memory e
+    → perform contract_mode name set places (Assign site target e) st ≡ Ended [] (plain.Undefined name) st.world
+valueless name set places site target e st a = rw (← a) refl
+
+pub placeless : (name : List ℕ) (set : WriteSet) (places : List ℕ) (site : ℕ) (target e : Expr) (v : ℤ) (st : State)
+    → Some v ≡ value (Body places) st.world.memory e → None ≡ place (Body places) target
+    → perform contract_mode name set places (Assign site target e) st ≡ Ended [] (plain.Undefined name) st.world
+placeless name set places site target e v st a b = rw (← a, ← b) refl

@@ -4,11 +4,11 @@ use Rattle.dc_core.specs.Event.{Blocked}
 use Rattle.dc_core.specs.Choices.{Draws, ◌>>=◌, give}
 use Rattle.dc_core.specs.Contract.{all_hold, set_of}
 use Rattle.dc_core.specs.Entry.{static_objects, static_sizes, entry_memory, draw_arguments}
-use Rattle.dc_core.specs.Memory.{Memory, function_object}
+use Rattle.dc_memory.specs.Objects.{Memory}
+use Rattle.dc_core.specs.Objects.{function_object}
 use Rattle.dc_core.specs.Program.{Function, Program}
 use Rattle.dc_core.specs.Run.{State, Out, Ended, Note, call, ensured, contract_mode}
 use Rattle.dc_core.specs.Value.{Clause}
-use Rattle.dc_world.specs.View.{memory_view}
 use Rattle.dc_run.specs.declared.entry.Entry.{Entry}
 
 -- the function, and the variables behind it
@@ -27,7 +27,7 @@ abbrev pub starts : Program → Draws Start
 starts p = entry_memory p >>= λ memory. draw_arguments p.function.params >>= λ arguments. give (start_of memory arguments)
 
 abbrev pub entry_view : Entry → Start
-entry_view e = start_of (memory_view e.memory) e.arguments.items
+entry_view e = start_of e.memory e.arguments.items
 
 -- the call with its ensures, where what it requires holds
 abbrev pub admitted_if : Function → List ℤ → State → Bool → Out Note

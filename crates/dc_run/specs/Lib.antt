@@ -1,4 +1,5 @@
 pub mod View
+pub mod Act
 pub mod Part
 pub mod Entry
 pub mod Report

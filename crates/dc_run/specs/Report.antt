@@ -2,7 +2,7 @@
 use Rattle.std.specs.Prelude.{◌≡◌, ℕ, List, [], ◌++◌, length, flat_map, Result, Ok, Err}
 use Rattle.dc_core.specs.Event as plain
 use Rattle.dc_core.specs.Event.{Event}
-use Rattle.dc_core.specs.Memory.{Memory}
+use Rattle.dc_memory.specs.Objects.{Memory}
 use Rattle.dc_core.specs.Outcome.{Outcome}
 use Rattle.dc_core.specs.Run.{Note, name_of, event_of}
 use Rattle.dc_world.specs.Told.{Supply, IsTaken, Hearing, told}

@@ -5,18 +5,19 @@ ghost use Rattle.dc_core.specs.View.{program_view};
 ghost use Rattle.dc_world.specs.Drawing.{IsDrawing};
 ghost use Rattle.dc_world.specs.Log.{hearing};
 ghost use Rattle.dc_world.specs.Told.{supply};
-ghost use Rattle.dc_world.specs.View.{memory_view};
 ghost use Rattle.dc_run.specs.Entry.{drawn_variables, entry_view, starts};
 
 use dc_choice::{Chooser, Watch};
-use dc_core::Program;
-use dc_world::{Log, Memory, Object, draw_arguments, static_objects, with_outside};
+use dc_core::parameters;
+use dc_memory::Store;
+use dc_program::Program;
+use dc_world::{Log, add_all, add_function, draw_arguments, static_objects, with_outside};
 use std::alloc::{AllocError, Global};
 
 /// The memory and the arguments before the function is called.
 #[derive(Drop)]
 pub struct Entry {
-    pub memory: Memory,
+    pub memory: Store,
     pub arguments: Vec<i128>,
 }
 
@@ -24,7 +25,8 @@ pub struct Entry {
 fn sizes(alloc: Global, p: &Program) -> Result<Vec<u64>, AllocError>
     ensures { IfOk result (λ sizes. sizes.items ≡ static_sizes (program_view p.now)) }
 {
-    let count = p.statics.len();
+    let statics = p.statics();
+    let count = statics.len();
     let sizes = vec![in alloc; 4; count]?;
     Ok(sizes)
 }
@@ -37,20 +39,20 @@ fn first_memory<C: Chooser, W: Watch>(
     used: &mut Vec<u64>,
     watch: &mut W,
     log: &mut Log,
-) -> Result<Option<Memory>, AllocError>
-    ensures { IsDrawing memory_view (drawn_variables (program_view p.now)) result
+) -> Result<Option<Store>, AllocError>
+    ensures { IsDrawing (λ memory. memory) (drawn_variables (program_view p.now)) result
         (supply (C.left chooser.old) (C.given chooser.old) (C.dry chooser.old) used.old.items)
         (supply (C.left chooser.new) (C.given chooser.new) (C.dry chooser.new) used.new.items)
         (hearing (W.records watch.old) (W.parts watch.old) log.old)
         (hearing (W.records watch.new) (W.parts watch.new) log.new) }
 {
     let sizes = sizes(alloc, p)?;
-    let mut memory = Memory::new(alloc);
-    memory.push(Object::function(alloc))?;
+    let mut memory = Store::new(alloc);
+    add_function(&mut memory)?;
     let Some(objects) = static_objects(alloc, sizes.as_slice(), chooser, used, watch, log)? else {
         return Ok(None);
     };
-    memory.replace(1, 1, objects)?;
+    add_all(&mut memory, objects)?;
     Ok(Some(memory))
 }
 
@@ -62,8 +64,8 @@ fn entry_memory<C: Chooser, W: Watch>(
     used: &mut Vec<u64>,
     watch: &mut W,
     log: &mut Log,
-) -> Result<Option<Memory>, AllocError>
-    ensures { IsDrawing memory_view (drawn_memory (program_view p.now)) result
+) -> Result<Option<Store>, AllocError>
+    ensures { IsDrawing (λ memory. memory) (drawn_memory (program_view p.now)) result
         (supply (C.left chooser.old) (C.given chooser.old) (C.dry chooser.old) used.old.items)
         (supply (C.left chooser.new) (C.given chooser.new) (C.dry chooser.new) used.new.items)
         (hearing (W.records watch.old) (W.parts watch.old) log.old)
@@ -92,13 +94,12 @@ pub fn draw_entry<C: Chooser, W: Watch>(
         (supply (C.left chooser.new) (C.given chooser.new) (C.dry chooser.new) used.new.items)
         (hearing (W.records watch.old) (W.parts watch.old) log.old)
         (hearing (W.records watch.new) (W.parts watch.new) log.new) }
-    ensures few { length p.now.statics ≤ 65534 → IfOk result (λ o. IfSome o (λ e. length (memory_view e.memory) ≤ 65535)) }
+    ensures few { length p.now.1.0 ≤ 65534 → IfOk result (λ o. IfSome o (λ e. length e.memory ≤ 65535)) }
 {
     let Some(memory) = entry_memory(alloc, p, chooser, used, watch, log)? else {
         return Ok(None);
     };
-    let Some(arguments) = draw_arguments(alloc, p.function.params, chooser, used, watch, log)?
-    else {
+    let Some(arguments) = draw_arguments(alloc, parameters(p), chooser, used, watch, log)? else {
         return Ok(None);
     };
     Ok(Some(Entry { memory, arguments }))

@@ -1,6 +1,7 @@
-//! The runs of the typed program, on the numbers that a chooser gives.
+//! The runs of a typed program of the first form, on the numbers that a chooser gives.
 #![tactic(auto)]
 
+mod act;
 mod assertion;
 mod call;
 mod clause;

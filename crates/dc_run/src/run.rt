@@ -1,8 +1,11 @@
 // Runs.
 ghost use Rattle.std.specs.Prelude.{◌≡◌, ◌≤◌, [], map, length, true, IfOk, IfSome, OnErr};
 ghost use Rattle.dc_core.specs.Event.{ChoicesEnded};
+ghost use Rattle.dc_core.specs.Program as plain;
 ghost use Rattle.dc_core.specs.Run.{contract_run, plain_report};
 ghost use Rattle.dc_core.specs.View.{function_view, program_view};
+ghost use Rattle.dc_core.specs.Whole.{Says};
+ghost use Rattle.dc_program.specs.ProgramView.{program_view as whole_view};
 ghost use Rattle.dc_choice.specs.Chosen.{Used};
 ghost use Rattle.dc_choice.specs.Heard.{hears_all};
 ghost use Rattle.dc_text.specs.Counted.{all_counted, no_counts, raised};
@@ -10,7 +13,6 @@ ghost use Rattle.dc_world.specs.Log.{hearing};
 ghost use Rattle.dc_world.specs.Report.{end_view};
 ghost use Rattle.dc_world.specs.Reported.{IsCutShort, IsReport, dry_at};
 ghost use Rattle.dc_world.specs.Told.{supply, spoken};
-ghost use Rattle.dc_world.specs.View.{memory_view};
 ghost use Rattle.dc_run.specs.Entry.{admitted_if, admitted};
 ghost use Rattle.dc_run.specs.Part.{IsPart};
 ghost use Rattle.dc_run.specs.Report.{IsRun};
@@ -21,7 +23,8 @@ use crate::entry::{Entry, draw_entry};
 use crate::state::{Flow, State};
 use crate::value::Scope;
 use dc_choice::{Chooser, Watch};
-use dc_core::{Function, Program};
+use dc_core::{assigned, function, required};
+use dc_program::{Function, Program};
 use dc_text::Choices;
 use dc_world::{End, Log, RunReport};
 use std::alloc::{AllocError, Global};
@@ -36,13 +39,13 @@ impl State {
         watch: &mut W,
         log: &mut Log,
     ) -> Result<Flow, AllocError>
-        requires { length (memory_view self.old.memory) ≤ 65535 }
+        requires { length self.old.memory ≤ 65535 }
         ensures { IsPart (λ choices. admitted_if (function_view f.now) arguments.now (state_view self.old choices) true) (state_view self.new) result
             (hearing (W.records watch.old) (W.parts watch.old) log.old)
             (hearing (W.records watch.new) (W.parts watch.new) log.new) }
     {
         let scope = Scope::Clause(arguments, None);
-        let set = target_set(alloc, &scope, &self.memory, f.contract.assigns.as_slice())?;
+        let set = target_set(alloc, &scope, &self.memory, assigned(f))?;
         let flow = self.call(alloc, f, &set, arguments, watch, log)?;
         self.ensure(alloc, f, arguments, &flow, watch, log)?;
         Ok(flow)
@@ -57,30 +60,32 @@ impl State {
         watch: &mut W,
         log: &mut Log,
     ) -> Result<Flow, AllocError>
-        requires { length (memory_view self.old.memory) ≤ 65535 }
+        requires { length self.old.memory ≤ 65535 }
         ensures { IsPart (λ choices. admitted (function_view f.now) arguments.now (state_view self.old choices)) (state_view self.new) result
             (hearing (W.records watch.old) (W.parts watch.old) log.old)
             (hearing (W.records watch.new) (W.parts watch.new) log.new) }
     {
         let scope = Scope::Clause(arguments, None);
-        if !all_hold(&scope, &self.memory, f.contract.requires_.as_slice()) {
+        if !all_hold(&scope, &self.memory, required(f)) {
             return Ok(Flow::Ended(End::Blocked));
         }
         self.call_and_ensure(alloc, f, arguments, watch, log)
     }
 }
 
-// The run of a program, up to its end.
+// The run of a program with its function, up to its end.
 fn run_to_end<C: Chooser, W: Watch>(
     alloc: Global,
     p: &Program,
+    f: &Function,
     steps: u64,
     chooser: &mut C,
     used: &mut Vec<u64>,
     watch: &mut W,
     log: &mut Log,
 ) -> Result<End, AllocError>
-    requires { length p.now.statics ≤ 65534 }
+    requires function { (program_view p.now).function ≡ function_view f.now }
+    requires few { length p.now.1.0 ≤ 65534 }
     ensures { IsRun (contract_run (program_view p.now) steps) result
         (supply (C.left chooser.old) (C.given chooser.old) (C.dry chooser.old) used.old.items)
         (supply (C.left chooser.new) (C.given chooser.new) (C.dry chooser.new) used.new.items)
@@ -99,8 +104,31 @@ fn run_to_end<C: Chooser, W: Watch>(
         locals: Vec::new(alloc),
         left: steps - 1,
     };
-    let flow = state.admit(alloc, &p.function, arguments.as_slice(), watch, log)?;
+    let flow = state.admit(alloc, f, arguments.as_slice(), watch, log)?;
     Ok(flow.end())
+}
+
+// The run of a program, up to its end. One without a function is cut.
+fn run_function<C: Chooser, W: Watch>(
+    alloc: Global,
+    p: &Program,
+    steps: u64,
+    chooser: &mut C,
+    used: &mut Vec<u64>,
+    watch: &mut W,
+    log: &mut Log,
+) -> Result<End, AllocError>
+    ensures run { (q : plain.Program) → Says q (whole_view p.now) → IsRun (contract_run q steps) result
+        (supply (C.left chooser.old) (C.given chooser.old) (C.dry chooser.old) used.old.items)
+        (supply (C.left chooser.new) (C.given chooser.new) (C.dry chooser.new) used.new.items)
+        (hearing (W.records watch.old) (W.parts watch.old) log.old)
+        (hearing (W.records watch.new) (W.parts watch.new) log.new) }
+    ensures parts { W.parts watch.new ≡ W.parts watch.old }
+{
+    match function(p) {
+        None => Ok(End::Cut),
+        Some(f) => run_to_end(alloc, p, f, steps, chooser, used, watch, log),
+    }
 }
 
 // The report of a program's run.
@@ -111,14 +139,13 @@ fn run_program<C: Chooser, W: Watch>(
     watch: &mut W,
     steps: u64,
 ) -> Result<RunReport, AllocError>
-    requires { length p.now.statics ≤ 65534 }
-    ensures report { IfOk result (λ r. IsReport (contract_run (program_view p.now) steps) r (C.left chooser.old) (C.left chooser.new) (C.given chooser.old) (C.given chooser.new) (C.dry chooser.old) (C.dry chooser.new) (W.records watch.old) (W.records watch.new)) }
+    ensures report { (q : plain.Program) → Says q (whole_view p.now) → IfOk result (λ r. IsReport (contract_run q steps) r (C.left chooser.old) (C.left chooser.new) (C.given chooser.old) (C.given chooser.new) (C.dry chooser.old) (C.dry chooser.new) (W.records watch.old) (W.records watch.new)) }
     ensures parts { W.parts watch.new ≡ W.parts watch.old }
-    ensures refused { OnErr result (IsCutShort (contract_run (program_view p.now) steps) (C.left chooser.old) (C.left chooser.new) (W.records watch.old) (W.records watch.new)) }
+    ensures refused { (q : plain.Program) → Says q (whole_view p.now) → OnErr result (IsCutShort (contract_run q steps) (C.left chooser.old) (C.left chooser.new) (W.records watch.old) (W.records watch.new)) }
 {
     let mut used = Vec::new(alloc);
     let mut log = Log::new(alloc);
-    let end = run_to_end(alloc, p, steps, chooser, &mut used, watch, &mut log)?;
+    let end = run_function(alloc, p, steps, chooser, &mut used, watch, &mut log)?;
     let Log { counts, failed } = log;
     Ok(RunReport {
         failed,
@@ -128,8 +155,8 @@ fn run_program<C: Chooser, W: Watch>(
     })
 }
 
-/// Runs a program with its contract for at most that many steps, on the numbers that a chooser gives, and tells a watch
-/// what happens.
+/// Runs a program of the first form with its contract for at most that many steps, on the numbers that a chooser gives,
+/// and tells a watch what happens.
 ///
 /// The memory and the arguments are drawn. Where a `requires` clause doesn't hold the run is blocked; else the function
 /// is called, and its body runs statement by statement, as C11 6.8 and 6.9.1 say. A write that no target of the `assigns`
@@ -146,25 +173,24 @@ pub fn run_contract<C: Chooser, W: Watch>(
     watch: &mut W,
     steps: u64,
 ) -> Result<RunReport, AllocError>
-    requires { length p.now.statics ≤ 65534 }
-    ensures failed { IfOk result (λ r. r.failed ≡ (contract_run (program_view p.now) steps r.used).names) }
-    ensures end { IfOk result (λ r. end_view r.end ≡ (contract_run (program_view p.now) steps r.used).end) }
-    ensures length { IfOk result (λ r. length r.used ≡ (contract_run (program_view p.now) steps r.used).used) }
-    ensures counts { IfOk result (λ r. r.counts ≡ all_counted (map spoken (contract_run (program_view p.now) steps r.used).events) no_counts) }
-    ensures whole { IfOk result (λ r. IfSome (C.left chooser.old) (λ list. contract_run (program_view p.now) steps list ≡ contract_run (program_view p.now) steps r.used)) }
-    ensures used { IfOk result (λ r. Used (C.left chooser.old) (C.left chooser.new) r.used) }
-    ensures given { IfOk result (λ r. C.given chooser.new ≡ raised (C.given chooser.old) (length r.used)) }
-    ensures dry { IfOk result (λ r. C.dry chooser.new ≡ raised (C.dry chooser.old) (dry_at (end_view r.end))) }
-    ensures ended { IfOk result (λ r. end_view r.end ≡ ChoicesEnded → IfSome (C.left chooser.new) (λ rest. rest ≡ [])) }
-    ensures heard { IfOk result (λ r. W.records watch.new ≡ map (hears_all (map spoken (contract_run (program_view p.now) steps r.used).events)) (W.records watch.old)) }
+    ensures failed { (q : plain.Program) → Says q (whole_view p.now) → IfOk result (λ r. r.failed ≡ (contract_run q steps r.used).names) }
+    ensures end { (q : plain.Program) → Says q (whole_view p.now) → IfOk result (λ r. end_view r.end ≡ (contract_run q steps r.used).end) }
+    ensures length { (q : plain.Program) → Says q (whole_view p.now) → IfOk result (λ r. length r.used ≡ (contract_run q steps r.used).used) }
+    ensures counts { (q : plain.Program) → Says q (whole_view p.now) → IfOk result (λ r. r.counts ≡ all_counted (map spoken (contract_run q steps r.used).events) no_counts) }
+    ensures whole { (q : plain.Program) → Says q (whole_view p.now) → IfOk result (λ r. IfSome (C.left chooser.old) (λ list. contract_run q steps list ≡ contract_run q steps r.used)) }
+    ensures used { (q : plain.Program) → Says q (whole_view p.now) → IfOk result (λ r. Used (C.left chooser.old) (C.left chooser.new) r.used) }
+    ensures given { (q : plain.Program) → Says q (whole_view p.now) → IfOk result (λ r. C.given chooser.new ≡ raised (C.given chooser.old) (length r.used)) }
+    ensures dry { (q : plain.Program) → Says q (whole_view p.now) → IfOk result (λ r. C.dry chooser.new ≡ raised (C.dry chooser.old) (dry_at (end_view r.end))) }
+    ensures ended { (q : plain.Program) → Says q (whole_view p.now) → IfOk result (λ r. end_view r.end ≡ ChoicesEnded → IfSome (C.left chooser.new) (λ rest. rest ≡ [])) }
+    ensures heard { (q : plain.Program) → Says q (whole_view p.now) → IfOk result (λ r. W.records watch.new ≡ map (hears_all (map spoken (contract_run q steps r.used).events)) (W.records watch.old)) }
     ensures parts { W.parts watch.new ≡ W.parts watch.old }
-    ensures refused { OnErr result (IsCutShort (contract_run (program_view p.now) steps) (C.left chooser.old) (C.left chooser.new) (W.records watch.old) (W.records watch.new)) }
+    ensures refused { (q : plain.Program) → Says q (whole_view p.now) → OnErr result (IsCutShort (contract_run q steps) (C.left chooser.old) (C.left chooser.new) (W.records watch.old) (W.records watch.new)) }
 {
     run_program(alloc, p, chooser, watch, steps)
 }
 
-/// Runs a program as it stands for at most that many steps, on the numbers that a chooser gives, tells a watch what
-/// happens, and judges the run by the contract afterwards.
+/// Runs a program of the first form as it stands for at most that many steps, on the numbers that a chooser gives, tells a
+/// watch what happens, and judges the run by the contract afterwards.
 ///
 /// The memory and the arguments are drawn, and the body of the function runs statement by statement, as C11 6.8 and 6.9.1
 /// say. The names of the report are the clauses that the run broke, by the manual of CBMC's code contracts: the writes
@@ -180,19 +206,18 @@ pub fn run_plain<C: Chooser, W: Watch>(
     watch: &mut W,
     steps: u64,
 ) -> Result<RunReport, AllocError>
-    requires { length p.now.statics ≤ 65534 }
-    ensures failed { IfOk result (λ r. r.failed ≡ (plain_report (program_view p.now) steps r.used).names) }
-    ensures end { IfOk result (λ r. end_view r.end ≡ (plain_report (program_view p.now) steps r.used).end) }
-    ensures length { IfOk result (λ r. length r.used ≡ (plain_report (program_view p.now) steps r.used).used) }
-    ensures counts { IfOk result (λ r. r.counts ≡ all_counted (map spoken (plain_report (program_view p.now) steps r.used).events) no_counts) }
-    ensures whole { IfOk result (λ r. IfSome (C.left chooser.old) (λ list. plain_report (program_view p.now) steps list ≡ plain_report (program_view p.now) steps r.used)) }
-    ensures used { IfOk result (λ r. Used (C.left chooser.old) (C.left chooser.new) r.used) }
-    ensures given { IfOk result (λ r. C.given chooser.new ≡ raised (C.given chooser.old) (length r.used)) }
-    ensures dry { IfOk result (λ r. C.dry chooser.new ≡ raised (C.dry chooser.old) (dry_at (end_view r.end))) }
-    ensures ended { IfOk result (λ r. end_view r.end ≡ ChoicesEnded → IfSome (C.left chooser.new) (λ rest. rest ≡ [])) }
-    ensures heard { IfOk result (λ r. W.records watch.new ≡ map (hears_all (map spoken (plain_report (program_view p.now) steps r.used).events)) (W.records watch.old)) }
+    ensures failed { (q : plain.Program) → Says q (whole_view p.now) → IfOk result (λ r. r.failed ≡ (plain_report q steps r.used).names) }
+    ensures end { (q : plain.Program) → Says q (whole_view p.now) → IfOk result (λ r. end_view r.end ≡ (plain_report q steps r.used).end) }
+    ensures length { (q : plain.Program) → Says q (whole_view p.now) → IfOk result (λ r. length r.used ≡ (plain_report q steps r.used).used) }
+    ensures counts { (q : plain.Program) → Says q (whole_view p.now) → IfOk result (λ r. r.counts ≡ all_counted (map spoken (plain_report q steps r.used).events) no_counts) }
+    ensures whole { (q : plain.Program) → Says q (whole_view p.now) → IfOk result (λ r. IfSome (C.left chooser.old) (λ list. plain_report q steps list ≡ plain_report q steps r.used)) }
+    ensures used { (q : plain.Program) → Says q (whole_view p.now) → IfOk result (λ r. Used (C.left chooser.old) (C.left chooser.new) r.used) }
+    ensures given { (q : plain.Program) → Says q (whole_view p.now) → IfOk result (λ r. C.given chooser.new ≡ raised (C.given chooser.old) (length r.used)) }
+    ensures dry { (q : plain.Program) → Says q (whole_view p.now) → IfOk result (λ r. C.dry chooser.new ≡ raised (C.dry chooser.old) (dry_at (end_view r.end))) }
+    ensures ended { (q : plain.Program) → Says q (whole_view p.now) → IfOk result (λ r. end_view r.end ≡ ChoicesEnded → IfSome (C.left chooser.new) (λ rest. rest ≡ [])) }
+    ensures heard { (q : plain.Program) → Says q (whole_view p.now) → IfOk result (λ r. W.records watch.new ≡ map (hears_all (map spoken (plain_report q steps r.used).events)) (W.records watch.old)) }
     ensures parts { W.parts watch.new ≡ W.parts watch.old }
-    ensures refused { OnErr result (IsCutShort (plain_report (program_view p.now) steps) (C.left chooser.old) (C.left chooser.new) (W.records watch.old) (W.records watch.new)) }
+    ensures refused { (q : plain.Program) → Says q (whole_view p.now) → OnErr result (IsCutShort (plain_report q steps) (C.left chooser.old) (C.left chooser.new) (W.records watch.old) (W.records watch.new)) }
 {
     run_program(alloc, p, chooser, watch, steps)
 }

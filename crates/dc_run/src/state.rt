@@ -3,14 +3,15 @@ ghost use Rattle.std.specs.Prelude.{◌≡◌, IfOk};
 ghost use Rattle.dc_run.specs.Part.{goes_on as goes_on_at, is_return as is_return_at, end_of};
 ghost use Rattle.dc_world.specs.Report.{end_view};
 
+use dc_memory::Store;
 use dc_text::Name;
-use dc_world::{End, Memory};
+use dc_world::End;
 use std::alloc::{AllocError, Global};
 
 /// What a function reads and changes: the memory, its objects (newest last), and how many steps are left.
 #[derive(Drop)]
 pub struct State {
-    pub memory: Memory,
+    pub memory: Store,
     pub locals: Vec<u64>,
     pub left: u64,
 }

@@ -4,21 +4,23 @@ ghost use Rattle.dc_core.specs.Assertion.{assigns_name as name_of_write};
 ghost use Rattle.dc_core.specs.Contract.{WriteSet as PlainSet, claimed};
 ghost use Rattle.dc_core.specs.Event.{Write};
 ghost use Rattle.dc_core.specs.Run.{Did, Failed, contract_mode, tick, write as written, perform as performed, run as run_of};
-ghost use Rattle.dc_core.specs.View.{stmt_view};
+ghost use Rattle.dc_core.specs.Program as plain;
+ghost use Rattle.dc_core.specs.View.{expr_view, stmt_view};
 ghost use Rattle.dc_world.specs.Log.{hearing};
 ghost use Rattle.dc_world.specs.Sets.{set_view};
 ghost use Rattle.dc_world.specs.Told.{Hearing, told};
-ghost use Rattle.dc_world.specs.View.{memory_view};
 ghost use Rattle.dc_run.specs.Part.{IsPart};
 ghost use Rattle.dc_run.specs.View.{state_view};
 
+use crate::act::{Act, act_of};
 use crate::assertion::assigns_name;
 use crate::state::{Flow, State, undefined};
 use crate::value::{Scope, place, store_int, value};
 use dc_choice::Watch;
-use dc_core::{Expr, Stmt};
+use dc_memory::{object_number, offset};
+use dc_program::{Expr, Stmt};
 use dc_text::Event;
-use dc_world::{Log, WriteSet, object_number, offset};
+use dc_world::{Log, WriteSet};
 use std::alloc::{AllocError, Global};
 
 // Notes the name of a write at a site as failed.
@@ -74,11 +76,11 @@ impl State {
         watch: &mut W,
         log: &mut Log,
     ) -> Result<Flow, AllocError>
-        requires { length (memory_view self.old.memory) ≤ 65535 }
+        requires { length self.old.memory ≤ 65535 }
         ensures part { IsPart (λ choices. written contract_mode name.now (set_view set.now) site place value (state_view self.old choices)) (state_view self.new) result
             (hearing (W.records watch.old) (W.parts watch.old) log.old)
             (hearing (W.records watch.new) (W.parts watch.new) log.new) }
-        ensures few { length (memory_view self.new.memory) ≤ 65535 }
+        ensures few { length self.new.memory ≤ 65535 }
     {
         let Some(pointer) = store_int(&mut self.memory, place, value) else {
             return undefined(alloc, name);
@@ -103,11 +105,11 @@ impl State {
         watch: &mut W,
         log: &mut Log,
     ) -> Result<Flow, AllocError>
-        requires { length (memory_view self.old.memory) ≤ 65535 }
-        ensures part { IsPart (λ choices. performed contract_mode name.now (set_view set.now) places.now (stmt_view (Stmt.Assign site target.now e.now)) (state_view self.old choices)) (state_view self.new) result
+        requires { length self.old.memory ≤ 65535 }
+        ensures part { IsPart (λ choices. performed contract_mode name.now (set_view set.now) places.now (plain.Assign site (expr_view target.now) (expr_view e.now)) (state_view self.old choices)) (state_view self.new) result
             (hearing (W.records watch.old) (W.parts watch.old) log.old)
             (hearing (W.records watch.new) (W.parts watch.new) log.new) }
-        ensures few { length (memory_view self.new.memory) ≤ 65535 }
+        ensures few { length self.new.memory ≤ 65535 }
     {
         let scope = Scope::Body(places);
         let Some(value) = value(&scope, &self.memory, e) else {
@@ -127,9 +129,9 @@ impl State {
         places: &[u128],
         e: &Expr,
     ) -> Result<Flow, AllocError>
-        requires { length (memory_view self.now.memory) ≤ 65535 }
+        requires { length self.now.memory ≤ 65535 }
         ensures { (set : PlainSet) (h : Hearing) →
-            IsPart (λ choices. performed contract_mode name.now set places.now (stmt_view (Stmt.Return e.now)) (state_view self.now choices)) (state_view self.now) result h h }
+            IsPart (λ choices. performed contract_mode name.now set places.now (plain.Return (expr_view e.now)) (state_view self.now choices)) (state_view self.now) result h h }
     {
         match value(&Scope::Body(places), &self.memory, e) {
             None => undefined(alloc, name),
@@ -137,7 +139,7 @@ impl State {
         }
     }
 
-    // A statement of the function of this name.
+    // A statement of the function of this name. One that isn't of the first form has no value.
     fn perform<W: Watch>(
         &mut self,
         alloc: Global,
@@ -148,17 +150,18 @@ impl State {
         watch: &mut W,
         log: &mut Log,
     ) -> Result<Flow, AllocError>
-        requires { length (memory_view self.old.memory) ≤ 65535 }
+        requires { length self.old.memory ≤ 65535 }
         ensures part { IsPart (λ choices. performed contract_mode name.now (set_view set.now) places.now (stmt_view stmt.now) (state_view self.old choices)) (state_view self.new) result
             (hearing (W.records watch.old) (W.parts watch.old) log.old)
             (hearing (W.records watch.new) (W.parts watch.new) log.new) }
-        ensures few { length (memory_view self.new.memory) ≤ 65535 }
+        ensures few { length self.new.memory ≤ 65535 }
     {
-        match stmt {
-            Stmt::Assign(site, target, e) => self.assign(
-                alloc, name, set, places, *site, target, e, watch, log,
-            ),
-            Stmt::Return(e) => self.give(alloc, name, places, e),
+        match act_of(stmt) {
+            Act::Assign(site, target, e) => {
+                self.assign(alloc, name, set, places, site, target, e, watch, log)
+            }
+            Act::Return(e) => self.give(alloc, name, places, e),
+            Act::Nothing => undefined(alloc, name),
         }
     }
 
@@ -173,11 +176,11 @@ impl State {
         watch: &mut W,
         log: &mut Log,
     ) -> Result<Flow, AllocError>
-        requires { length (memory_view self.old.memory) ≤ 65535 }
+        requires { length self.old.memory ≤ 65535 }
         ensures part { IsPart (λ choices. tick (state_view self.old choices) (performed contract_mode name.now (set_view set.now) places.now (stmt_view stmt.now))) (state_view self.new) result
             (hearing (W.records watch.old) (W.parts watch.old) log.old)
             (hearing (W.records watch.new) (W.parts watch.new) log.new) }
-        ensures few { length (memory_view self.new.memory) ≤ 65535 }
+        ensures few { length self.new.memory ≤ 65535 }
     {
         if self.left == 0 {
             return Ok(Flow::Cut);
@@ -197,11 +200,11 @@ impl State {
         watch: &mut W,
         log: &mut Log,
     ) -> Result<Flow, AllocError>
-        requires { length (memory_view self.old.memory) ≤ 65535 }
+        requires { length self.old.memory ≤ 65535 }
         ensures part { IsPart (λ choices. run_of contract_mode name.now (set_view set.now) places.now (map stmt_view body.now) (state_view self.old choices)) (state_view self.new) result
             (hearing (W.records watch.old) (W.parts watch.old) log.old)
             (hearing (W.records watch.new) (W.parts watch.new) log.new) }
-        ensures few { length (memory_view self.new.memory) ≤ 65535 }
+        ensures few { length self.new.memory ≤ 65535 }
     {
         for stmt in body {
             let flow = self.step(alloc, name, set, places, stmt, watch, log)?;

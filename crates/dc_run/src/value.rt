@@ -2,18 +2,20 @@
 ghost use Rattle.std.specs.Prelude.{◌≡◌, ◌≤◌, ◌<◌, ◌^◌, ◌+ℤ◌, ◌-ℤ◌, ◌*ℤ◌, length, pos, Some, slice_get, option_copied};
 ghost use Rattle.std.specs.Int.{int_div_euclid};
 ghost use Rattle.dc_num.specs.declared.kind.NumKind.TheVariants.{S32};
-ghost use Rattle.dc_core.specs.Memory.{start_of, load, store};
+ghost use Rattle.dc_memory.specs.declared.kind.MemKind.TheVariants as mem;
+ghost use Rattle.dc_memory.specs.Places.{start_of};
+ghost use Rattle.dc_memory.specs.Access.{load, store};
 ghost use Rattle.dc_num.specs.Conversions.{value_of_bits};
 ghost use Rattle.dc_num.specs.Operators.{settled, quotient, remainder as remainder_of, shifted_left, shifted_right};
 ghost use Rattle.dc_core.specs.Number.{computed};
 ghost use Rattle.dc_core.specs.Value.{variable_place as place_of_variable, parameter_value as value_of_parameter, result_value as value_of_result, parameter_place as place_of_parameter, value as value_of, place as place_of};
-ghost use Rattle.dc_core.specs.View.{expr_view};
-ghost use Rattle.dc_world.specs.View.{memory_view};
+ghost use Rattle.dc_core.specs.View.{expr_view, target_view};
 ghost use Rattle.dc_run.specs.View.{scope_view, IsWritten};
 
-use dc_core::{BinOp, Expr, NumKind};
+use dc_core::{BinOp, NumKind};
+use dc_memory::{MemKind, Store};
 use dc_num::{binary, bits, truth};
-use dc_world::Memory;
+use dc_program::{Expr, Form, Range, Target};
 use sqlite_items::at;
 
 /// Where an expression stands: in a body, by the places of the parameters' objects; or in a clause, by the arguments at
@@ -25,7 +27,7 @@ pub enum Scope<'a> {
 }
 
 /// The place of the start of an object.
-#[tactic(auto, unfolding(dc_core::specs::Memory::start_of))]
+#[tactic(auto, unfolding(dc_memory::specs::Places::start_of))]
 pub fn start(number: u64) -> u128
     ensures { result ≡ start_of number }
 {
@@ -33,7 +35,7 @@ pub fn start(number: u64) -> u128
 }
 
 // The place of a variable.
-#[tactic(auto, unfolding(dc_core::specs::Memory::start_of))]
+#[tactic(auto, unfolding(dc_memory::specs::Places::start_of))]
 fn variable_place(k: u64) -> u128
     ensures { result ≡ place_of_variable k }
 {
@@ -41,25 +43,25 @@ fn variable_place(k: u64) -> u128
 }
 
 // The int at a place, where the place is inside a live object. There are too few objects for a place from 2^64 on.
-fn load_int(memory: &Memory, place: u128) -> Option<i128>
-    requires { length (memory_view memory.now) ≤ 65535 }
-    ensures { result ≡ load S32 place (memory_view memory.now) }
+fn load_int(memory: &Store, place: u128) -> Option<i128>
+    requires { length memory.now ≤ 65535 }
+    ensures { result ≡ load mem.S32 place memory.now }
 {
     if place >= 1 << 64 {
         return None;
     }
-    memory.load(NumKind::S32, place as u64)
+    memory.load(place as u64, MemKind::S32)
 }
 
 /// Writes an int at a place and gives the place, where it is inside a live object.
-pub fn store_int(memory: &mut Memory, place: u128, value: i128) -> Option<u64>
-    requires { length (memory_view memory.old) ≤ 65535 }
-    ensures { IsWritten result place (store S32 place value (memory_view memory.old)) (memory_view memory.old) (memory_view memory.new) }
+pub fn store_int(memory: &mut Store, place: u128, value: i128) -> Option<u64>
+    requires { length memory.old ≤ 65535 }
+    ensures { IsWritten result place (store mem.S32 place value memory.old) memory.old memory.new }
 {
     if place >= 1 << 64 {
         return None;
     }
-    if memory.store(NumKind::S32, place as u64, value) {
+    if memory.store(place as u64, MemKind::S32, value) {
         Some(place as u64)
     } else {
         None
@@ -87,9 +89,9 @@ fn argument_at(arguments: &[i128], k: u64) -> Option<i128>
 }
 
 // The value of a parameter.
-fn parameter_value(scope: &Scope, memory: &Memory, k: u64) -> Option<i128>
-    requires { length (memory_view memory.now) ≤ 65535 }
-    ensures { result ≡ value_of_parameter (scope_view scope.now) (memory_view memory.now) k }
+fn parameter_value(scope: &Scope, memory: &Store, k: u64) -> Option<i128>
+    requires { length memory.now ≤ 65535 }
+    ensures { result ≡ value_of_parameter (scope_view scope.now) memory.now k }
 {
     match scope {
         Scope::Body(places) => match place_at(places, k) {
@@ -238,20 +240,23 @@ fn operate(op: BinOp, a: i128, b: i128) -> Option<i128>
 }
 
 /// The value of an expression, where it has one.
-pub fn value(scope: &Scope, memory: &Memory, e: &Expr) -> Option<i128>
-    requires { length (memory_view memory.now) ≤ 65535 }
-    ensures { result ≡ value_of (scope_view scope.now) (memory_view memory.now) (expr_view e.now) }
+#[tactic(auto, unfolding(dc_core::specs::Number::computed, dc_num::specs::Operators::binary_of))]
+pub fn value(scope: &Scope, memory: &Store, e: &Expr) -> Option<i128>
+    requires { length memory.now ≤ 65535 }
+    ensures { result ≡ value_of (scope_view scope.now) memory.now (expr_view e.now) }
 {
-    match e {
-        Expr::Literal(z) => Some(*z),
-        Expr::Variable(k) => load_int(memory, variable_place(*k)),
-        Expr::Parameter(k) => parameter_value(scope, memory, *k),
-        Expr::ReturnValue => result_value(scope),
-        Expr::Binary(op, a, b) => {
-            let a = value(scope, memory, a.get())?;
-            let b = value(scope, memory, b.get())?;
+    match e.form.get() {
+        Form::Literal(z) => Some(*z),
+        Form::Static(k) => load_int(memory, variable_place(*k as u64)),
+        Form::Local(k) => parameter_value(scope, memory, *k as u64),
+        Form::Argument(k) => parameter_value(scope, memory, *k as u64),
+        Form::ReturnValue => result_value(scope),
+        Form::Binary(op, a, b) => {
+            let a = value(scope, memory, a)?;
+            let b = value(scope, memory, b)?;
             operate(*op, a, b)
         }
+        _ => None,
     }
 }
 
@@ -269,9 +274,20 @@ fn parameter_place(scope: &Scope, k: u64) -> Option<u128>
 pub fn place(scope: &Scope, e: &Expr) -> Option<u128>
     ensures { result ≡ place_of (scope_view scope.now) (expr_view e.now) }
 {
-    match e {
-        Expr::Variable(k) => Some(variable_place(*k)),
-        Expr::Parameter(k) => parameter_place(scope, *k),
-        Expr::Literal(_) | Expr::ReturnValue | Expr::Binary(_, _, _) => None,
+    match e.form.get() {
+        Form::Static(k) => Some(variable_place(*k as u64)),
+        Form::Local(k) => parameter_place(scope, *k as u64),
+        Form::Argument(k) => parameter_place(scope, *k as u64),
+        _ => None,
+    }
+}
+
+/// The place of a target, where it has one.
+pub fn target_place(scope: &Scope, target: &Target) -> Option<u128>
+    ensures { result ≡ place_of (scope_view scope.now) (target_view target.now) }
+{
+    match &target.range {
+        Range::Lvalue(e) => place(scope, e),
+        _ => None,
     }
 }

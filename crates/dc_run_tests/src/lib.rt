@@ -1,4 +1,4 @@
-//! Tests of the source's runs on programs that are built by hand. It has nothing else.
+//! Tests of the source's runs on programs that are read, and on one that no source has. It has nothing else.
 #![tactic(auto)]
 
 #[cfg(test)]

@@ -1,9 +1,8 @@
 // Runs.
-ghost use Rattle.std.specs.Prelude.{◌≤◌, length, IfOk};
 
-use crate::build::{Made, keep_program, next_program, set_program};
+use crate::build::{read_program, unfinished_program};
 use dc_choice::{CountWatch, ListChooser};
-use dc_core::Program;
+use dc_program::Program;
 use dc_run::{run_contract, run_plain};
 use dc_text::Choices;
 use dc_world::{End, RunReport, Which};
@@ -44,9 +43,7 @@ fn run(
     plain: bool,
     list: &[u64],
     steps: u64,
-) -> Result<RunReport, AllocError>
-    requires { length p.now.statics ≤ 1 }
-{
+) -> Result<RunReport, AllocError> {
     let choices = Choices::of(Vec::from_slice(alloc, list)?);
     let mut chooser = ListChooser::new(choices);
     let mut watch = CountWatch::new();
@@ -60,22 +57,44 @@ fn run(
 // The programs.
 #[derive(Clone, Copy)]
 enum Source {
-    Set(Made),
+    Kept,
+    Free,
+    Unlisted,
+    Overclaimed,
     Next,
     Unfinished,
     Keep,
 }
 
-fn make_program(alloc: Global, source: Source) -> Result<Program, AllocError>
-    ensures { IfOk result (λ p. length p.statics ≤ 1) }
-{
+fn make_program(alloc: Global, source: Source) -> Result<Program, AllocError> {
     match source {
-        Source::Set(made) => set_program(alloc, made),
-        Source::Next => next_program(alloc, true),
-        Source::Unfinished => next_program(alloc, false),
-        Source::Keep => keep_program(alloc),
+        Source::Kept => read_program(alloc, KEPT),
+        Source::Free => read_program(alloc, FREE),
+        Source::Unlisted => read_program(alloc, UNLISTED),
+        Source::Overclaimed => read_program(alloc, OVERCLAIMED),
+        Source::Next => read_program(alloc, NEXT),
+        Source::Unfinished => unfinished_program(alloc),
+        Source::Keep => read_program(alloc, KEEP),
     }
 }
+
+// The function writes its argument and one more to the variable.
+const KEPT: &str =
+    "int g; void set(int x) __CPROVER_requires(x < 100) __CPROVER_ensures(g == x + 1) __CPROVER_assigns(g) { g = x + 1; }";
+
+const FREE: &str =
+    "int g; void set(int x) __CPROVER_ensures(g == x + 1) __CPROVER_assigns(g) { g = x + 1; }";
+
+const UNLISTED: &str =
+    "int g; void set(int x) __CPROVER_requires(x < 100) __CPROVER_ensures(g == x + 2) { g = x + 1; }";
+
+const OVERCLAIMED: &str =
+    "int g; void set(int x) __CPROVER_requires(x < 100) __CPROVER_ensures(g == x + 2) __CPROVER_assigns(g) { g = x + 1; }";
+
+const NEXT: &str =
+    "int f(int x) __CPROVER_ensures(__CPROVER_return_value == x + 1) { x = x + 1; return x; }";
+
+const KEEP: &str = "int g; void f(void) { g = g; }";
 
 // A run of a program, and what it comes to.
 struct Row {
@@ -90,37 +109,13 @@ struct Row {
     failed: &'static [&'static str],
 }
 
-const KEPT: Made = Made {
-    required: true,
-    assigned: true,
-    claimed: 1,
-};
-
-const FREE: Made = Made {
-    required: false,
-    assigned: true,
-    claimed: 1,
-};
-
-const UNLISTED: Made = Made {
-    required: true,
-    assigned: false,
-    claimed: 2,
-};
-
-const OVERCLAIMED: Made = Made {
-    required: true,
-    assigned: true,
-    claimed: 2,
-};
-
 // Draws, creates, kills, writes, frees, checks, calls and returns of a run of `set` that returns.
 const ALL: [u128; 8] = [6, 1, 1, 1, 0, 1, 1, 1];
 
 const ROWS: [Row; 14] = [
     Row {
         name: "the contract is kept",
-        source: Source::Set(KEPT),
+        source: Source::Kept,
         list: &[0, 0, 0, 0, 0, 41],
         steps: 1000,
         end: "returned",
@@ -131,7 +126,7 @@ const ROWS: [Row; 14] = [
     },
     Row {
         name: "numbers are left",
-        source: Source::Set(KEPT),
+        source: Source::Kept,
         list: &[256, 1, 2, 3, 65534, 4294967337, 7, 8],
         steps: 1000,
         end: "returned",
@@ -142,7 +137,7 @@ const ROWS: [Row; 14] = [
     },
     Row {
         name: "the argument is too great",
-        source: Source::Set(KEPT),
+        source: Source::Kept,
         list: &[0, 0, 0, 0, 0, 100],
         steps: 1000,
         end: "blocked",
@@ -153,7 +148,7 @@ const ROWS: [Row; 14] = [
     },
     Row {
         name: "the sum is no int",
-        source: Source::Set(FREE),
+        source: Source::Free,
         list: &[0, 0, 0, 0, 0, 2147483647],
         steps: 1000,
         end: "undefined set",
@@ -164,7 +159,7 @@ const ROWS: [Row; 14] = [
     },
     Row {
         name: "the variable may not be written, and the ensures doesn't hold",
-        source: Source::Set(UNLISTED),
+        source: Source::Unlisted,
         list: &[0, 0, 0, 0, 0, 41],
         steps: 1000,
         end: "returned",
@@ -175,7 +170,7 @@ const ROWS: [Row; 14] = [
     },
     Row {
         name: "the ensures doesn't hold",
-        source: Source::Set(OVERCLAIMED),
+        source: Source::Overclaimed,
         list: &[0, 0, 0, 0, 0, 41],
         steps: 1000,
         end: "returned",
@@ -186,7 +181,7 @@ const ROWS: [Row; 14] = [
     },
     Row {
         name: "no step is left for the body",
-        source: Source::Set(KEPT),
+        source: Source::Kept,
         list: &[0, 0, 0, 0, 0, 41],
         steps: 1,
         end: "cut",
@@ -197,7 +192,7 @@ const ROWS: [Row; 14] = [
     },
     Row {
         name: "no step at all",
-        source: Source::Set(KEPT),
+        source: Source::Kept,
         list: &[0, 0, 0, 0, 0, 41],
         steps: 0,
         end: "cut",
@@ -302,7 +297,7 @@ fn rows(rt: HostRuntime) -> Result<(), Fail> {
 
 #[test]
 fn choices_end_at_each_place(rt: HostRuntime) -> Result<(), Fail> {
-    let p = set_program(rt.alloc(), KEPT)?;
+    let p = read_program(rt.alloc(), KEPT)?;
     let list: [u64; 6] = [0, 0, 0, 0, 0, 41];
     for plain in [false, true] {
         for taken in 0..6 {
@@ -317,7 +312,7 @@ fn choices_end_at_each_place(rt: HostRuntime) -> Result<(), Fail> {
 
 #[test]
 fn one_object_too_many(rt: HostRuntime) -> Result<(), Fail> {
-    let p = set_program(rt.alloc(), KEPT)?;
+    let p = read_program(rt.alloc(), KEPT)?;
     let mut list = vec![in rt.alloc(); 0; 65539]?;
     list[4] = 65533;
     list[65538] = 41;

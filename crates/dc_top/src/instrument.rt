@@ -1,6 +1,8 @@
 // From a source to the text of its instrumented program.
 ghost use Rattle.std.specs.Prelude.{◌≡◌, ◌<◌, ℕ, List, IfOk, length, map};
 ghost use Rattle.dc_core.specs.View.{program_view};
+ghost use Rattle.dc_core.specs.Whole.{Says as SaysFirst};
+ghost use Rattle.dc_program.specs.ProgramView.{program_view as whole_view};
 ghost use Rattle.dc_goto.specs.Text.{line_bytes, lines_of};
 ghost use Rattle.dc_instrument.specs.Lowering.{goto_of};
 ghost use Rattle.dc_top.specs.Answers.{Says, TellsFaults};
@@ -8,15 +10,17 @@ ghost use Rattle.dc_top.specs.Table.{Instrument, inputs_of};
 
 use crate::answer::Answer;
 use crate::source::read_source;
-use dc_core::{Name, Program};
+use dc_core::Name;
 use dc_instrument::laws::{lowered_can_be_written, lowered_is_exact};
 use dc_instrument::lowered;
 use dc_outside::Shelf;
 use dc_print::{Lines, text_lines};
+use dc_program::Program;
 use std::alloc::{AllocError, Global};
 
 // The text of a program.
 fn text(alloc: Global, p: &Program) -> Result<Lines, AllocError>
+    requires { SaysFirst (program_view p.now) (whole_view p.now) }
     ensures { IfOk result (λ lines. lines ≡ map line_bytes (lines_of (goto_of (program_view p.now)))) }
 {
     let lowered = lowered(alloc, p)?;

@@ -2,6 +2,8 @@
 ghost use Rattle.std.specs.Prelude.{◌≡◌, ◌≤◌, ◌<◌, ℕ, List, IfOk, length};
 ghost use Rattle.dc_core.specs.Outcome.{Outcome};
 ghost use Rattle.dc_core.specs.View.{program_view};
+ghost use Rattle.dc_core.specs.Whole.{Says as SaysFirst};
+ghost use Rattle.dc_program.specs.ProgramView.{program_view as whole_view};
 ghost use Rattle.dc_goto.specs.Machine.{goto_run};
 ghost use Rattle.dc_goto.specs.View.{goto_view};
 ghost use Rattle.dc_top.specs.Answers.{Says, TellsFaults};
@@ -16,10 +18,11 @@ use crate::source::read_source;
 use crate::table::Mode;
 use crate::text::read_text;
 use dc_choice::{CountWatch, ListChooser};
-use dc_core::{Name, Program};
+use dc_core::Name;
 use dc_goto::GotoProgram;
 use dc_machine::run_goto;
 use dc_outside::Shelf;
+use dc_program::Program;
 use dc_run::{run_contract, run_plain};
 use dc_text::Choices;
 use dc_world::RunReport;
@@ -47,7 +50,7 @@ fn source_report(
     list: Choices,
     steps: u64,
 ) -> Result<RunReport, AllocError>
-    requires { length p.now.statics ≤ 65534 }
+    requires { SaysFirst (program_view p.now) (whole_view p.now) }
     ensures { IfOk result (IsReportOf (run_by mode (program_view p.now) steps list)) }
 {
     let mut chooser = ListChooser::new(list);
@@ -70,7 +73,7 @@ fn answer_text(alloc: Global, p: &GotoProgram, list: Choices, steps: u64) -> Ans
 
 // The answer to a source's program and a list.
 fn answer_source(alloc: Global, p: &Program, mode: Mode, list: Choices, steps: u64) -> Answer
-    requires { length p.now.statics ≤ 65534 }
+    requires { SaysFirst (program_view p.now) (whole_view p.now) }
     ensures { SaysOfRun (run_by mode (program_view p.now) steps list) result }
 {
     match source_report(alloc, p, mode, list, steps) {

@@ -6,7 +6,11 @@ use Rattle.dc_num.specs.declared.kind.NumKind.TheVariants.{S32}
 use Rattle.dc_core.specs.Event.{Event, Draw, Create}
 use Rattle.dc_core.specs.Run.{Note, Did}
 use Rattle.dc_core.specs.Choices.{Drawn, Drew, Dry, Draws, ◌>>=◌, bind, give, tell, draw, draw_bytes, draw_value, after}
-use Rattle.dc_core.specs.Memory.{ObjKind, Static, Stack, Memory, Object, holding, dead}
+use Rattle.dc_memory.specs.declared.object.ObjKind.{ObjKind}
+use Rattle.dc_memory.specs.declared.object.ObjKind.TheVariants.{Static, Stack}
+use Rattle.dc_memory.specs.declared.object.Object.{Object}
+use Rattle.dc_memory.specs.Objects.{Memory, holding}
+use Rattle.dc_core.specs.Objects.{dead}
 use Rattle.dc_core.specs.Entry.{static_objects, live_object, dead_object, outside_object, outside_objects, draw_arguments}
 use Rattle.dc_choice.specs.Chosen.{Used, Takes, Counted}
 use Rattle.dc_world.specs.Told.{Supply, supply, IsTaken, Hearing, noted, happens, told}

@@ -1,4 +1,4 @@
 pub mod Numbers
-pub mod Objects
+pub mod Changes
 pub mod Drawing
 pub mod Reported

@@ -2,7 +2,8 @@
 use Rattle.std.specs.Prelude.{◌≡◌, ℕ, suc, List, ◌++◌, length, map, Option, Some, None, Result, Ok, Err}
 use Rattle.dc_core.specs.Event.{Event}
 use Rattle.dc_core.specs.Run.{Did}
-use Rattle.dc_core.specs.Memory.{Memory, Object}
+use Rattle.dc_memory.specs.declared.object.Object.{Object}
+use Rattle.dc_memory.specs.Objects.{Memory}
 use Rattle.dc_core.specs.Choices.{Drawn, Drew, Dry, Draws, ◌>>=◌, give, draw, after}
 use Rattle.dc_core.specs.Entry.{outside_object, outside_objects}
 use Rattle.dc_world.specs.Told.{Supply, IsTaken, Hearing, told}

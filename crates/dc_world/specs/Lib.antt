@@ -1,5 +1,4 @@
 pub mod View
-pub mod Stored
 pub mod Told
 pub mod Log
 pub mod Drawing

@@ -2,17 +2,18 @@
 ghost use Rattle.std.specs.Prelude.{◌≡◌, suc, length};
 ghost use Rattle.dc_core.specs.Event.{Create};
 ghost use Rattle.dc_core.specs.Entry.{static_objects as drawn_statics, live_object as drawn_live, outside_object as drawn_outside, with_outside as drawn_with_outside};
-ghost use Rattle.dc_core.specs.Memory.{dead};
+ghost use Rattle.dc_core.specs.Objects.{dead};
 ghost use Rattle.dc_world.specs.Told.{supply, happens};
 ghost use Rattle.dc_world.specs.Log.{hearing};
 ghost use Rattle.dc_world.specs.Drawing.{IsDrawing, next_object as drawn_next, with_objects};
-ghost use Rattle.dc_world.specs.View.{kind_view, object_view, objects_view, memory_view};
+ghost use Rattle.dc_world.specs.View.{kind_view, object_view, objects_view};
 
 use crate::draws::{draw, draw_bytes};
+use crate::fresh::{Fresh, Storage};
 use crate::log::Log;
-use crate::memory::Memory;
-use crate::object::{ObjKind, Object};
+use crate::memory::add;
 use dc_choice::{Chooser, Watch};
+use dc_memory::Store;
 use dc_text::Event;
 use std::alloc::{AllocError, Global};
 
@@ -24,7 +25,7 @@ pub fn static_objects<C: Chooser, W: Watch>(
     used: &mut Vec<u64>,
     watch: &mut W,
     log: &mut Log,
-) -> Result<Option<Vec<Object>>, AllocError>
+) -> Result<Option<Vec<Fresh>>, AllocError>
     ensures { IsDrawing (λ objects. objects_view objects.items) (drawn_statics sizes.now) result
         (supply (C.left chooser.old) (C.given chooser.old) (C.dry chooser.old) used.old.items)
         (supply (C.left chooser.new) (C.given chooser.new) (C.dry chooser.new) used.new.items)
@@ -37,7 +38,7 @@ pub fn static_objects<C: Chooser, W: Watch>(
         let Some(bytes) = draw_bytes(alloc, *size, chooser, used, watch, log)? else {
             return Ok(None);
         };
-        objects.push_reserved(Object::holding(ObjKind::Static, bytes));
+        objects.push_reserved(Fresh::Live(Storage::Static, bytes));
     }
     Ok(Some(objects))
 }
@@ -46,13 +47,13 @@ pub fn static_objects<C: Chooser, W: Watch>(
 fn live_object<C: Chooser, W: Watch>(
     alloc: Global,
     number: u64,
-    kind: ObjKind,
+    storage: Storage,
     chooser: &mut C,
     used: &mut Vec<u64>,
     watch: &mut W,
     log: &mut Log,
-) -> Result<Option<Object>, AllocError>
-    ensures { IsDrawing object_view (drawn_live number (kind_view kind)) result
+) -> Result<Option<Fresh>, AllocError>
+    ensures { IsDrawing object_view (drawn_live number (kind_view storage)) result
         (supply (C.left chooser.old) (C.given chooser.old) (C.dry chooser.old) used.old.items)
         (supply (C.left chooser.new) (C.given chooser.new) (C.dry chooser.new) used.new.items)
         (hearing (W.records watch.old) (W.parts watch.old) log.old)
@@ -65,7 +66,7 @@ fn live_object<C: Chooser, W: Watch>(
     let Some(bytes) = draw_bytes(alloc, size, chooser, used, watch, log)? else {
         return Ok(None);
     };
-    Ok(Some(Object::holding(kind, bytes)))
+    Ok(Some(Fresh::Live(storage, bytes)))
 }
 
 // Draws an object of this number, of the sort that was drawn for it.
@@ -77,7 +78,7 @@ fn outside_object<C: Chooser, W: Watch>(
     used: &mut Vec<u64>,
     watch: &mut W,
     log: &mut Log,
-) -> Result<Option<Object>, AllocError>
+) -> Result<Option<Fresh>, AllocError>
     ensures { IsDrawing object_view (drawn_outside number sort) result
         (supply (C.left chooser.old) (C.given chooser.old) (C.dry chooser.old) used.old.items)
         (supply (C.left chooser.new) (C.given chooser.new) (C.dry chooser.new) used.new.items)
@@ -85,27 +86,21 @@ fn outside_object<C: Chooser, W: Watch>(
         (hearing (W.records watch.new) (W.parts watch.new) log.new) }
 {
     match sort {
-        0 => Ok(Some(dead_object(alloc, number, ObjKind::Heap, watch, log))),
-        1 => Ok(Some(dead_object(alloc, number, ObjKind::Stack, watch, log))),
-        2 => live_object(alloc, number, ObjKind::Heap, chooser, used, watch, log),
-        _ => live_object(alloc, number, ObjKind::Stack, chooser, used, watch, log),
+        0 => Ok(Some(dead_object(number, Storage::Heap, watch, log))),
+        1 => Ok(Some(dead_object(number, Storage::Stack, watch, log))),
+        2 => live_object(alloc, number, Storage::Heap, chooser, used, watch, log),
+        _ => live_object(alloc, number, Storage::Stack, chooser, used, watch, log),
     }
 }
 
 // A dead object of this number.
-fn dead_object<W: Watch>(
-    alloc: Global,
-    number: u64,
-    kind: ObjKind,
-    watch: &mut W,
-    log: &mut Log,
-) -> Object
-    ensures seen { object_view result ≡ dead (kind_view kind) }
+fn dead_object<W: Watch>(number: u64, storage: Storage, watch: &mut W, log: &mut Log) -> Fresh
+    ensures seen { object_view result ≡ dead (kind_view storage) }
     ensures told { hearing (W.records watch.new) (W.parts watch.new) log.new
         ≡ happens (Create number) (hearing (W.records watch.old) (W.parts watch.old) log.old) }
 {
     log.tell(watch, Event::Create(number));
-    Object::dead(alloc, kind)
+    Fresh::Dead(storage)
 }
 
 // Draws an object behind the others: its sort, then what the sort asks for.
@@ -116,7 +111,7 @@ fn next_object<C: Chooser, W: Watch>(
     used: &mut Vec<u64>,
     watch: &mut W,
     log: &mut Log,
-) -> Result<Option<Object>, AllocError>
+) -> Result<Option<Fresh>, AllocError>
     ensures { IsDrawing object_view (drawn_next number) result
         (supply (C.left chooser.old) (C.given chooser.old) (C.dry chooser.old) used.old.items)
         (supply (C.left chooser.new) (C.given chooser.new) (C.dry chooser.new) used.new.items)
@@ -132,14 +127,14 @@ fn next_object<C: Chooser, W: Watch>(
 // Draws that many objects behind those of the memory.
 fn outside_objects<C: Chooser, W: Watch>(
     alloc: Global,
-    memory: &mut Memory,
+    memory: &mut Store,
     count: u64,
     chooser: &mut C,
     used: &mut Vec<u64>,
     watch: &mut W,
     log: &mut Log,
 ) -> Result<Option<()>, AllocError>
-    ensures { IsDrawing (λ u. memory_view memory.new) (with_objects (memory_view memory.old) count) result
+    ensures { IsDrawing (λ u. memory.new) (with_objects memory.old count) result
         (supply (C.left chooser.old) (C.given chooser.old) (C.dry chooser.old) used.old.items)
         (supply (C.left chooser.new) (C.given chooser.new) (C.dry chooser.new) used.new.items)
         (hearing (W.records watch.old) (W.parts watch.old) log.old)
@@ -150,7 +145,7 @@ fn outside_objects<C: Chooser, W: Watch>(
         let Some(object) = next_object(alloc, number, chooser, used, watch, log)? else {
             return Ok(None);
         };
-        memory.push(object)?;
+        add(memory, object)?;
     }
     Ok(Some(()))
 }
@@ -159,13 +154,13 @@ fn outside_objects<C: Chooser, W: Watch>(
 #[tactic(auto, unfolding(dc_core::specs::Entry::with_outside))]
 pub fn with_outside<C: Chooser, W: Watch>(
     alloc: Global,
-    memory: &mut Memory,
+    memory: &mut Store,
     chooser: &mut C,
     used: &mut Vec<u64>,
     watch: &mut W,
     log: &mut Log,
 ) -> Result<Option<()>, AllocError>
-    ensures { IsDrawing (λ u. memory_view memory.new) (drawn_with_outside (memory_view memory.old)) result
+    ensures { IsDrawing (λ u. memory.new) (drawn_with_outside memory.old) result
         (supply (C.left chooser.old) (C.given chooser.old) (C.dry chooser.old) used.old.items)
         (supply (C.left chooser.new) (C.given chooser.new) (C.dry chooser.new) used.new.items)
         (hearing (W.records watch.old) (W.parts watch.old) log.old)

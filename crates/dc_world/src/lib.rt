@@ -3,18 +3,18 @@
 
 mod draws;
 mod entry;
+mod fresh;
 mod log;
 mod memory;
 mod number;
-mod object;
 mod report;
 mod sets;
 
 pub use draws::{draw, draw_arguments, draw_bytes, draw_value};
 pub use entry::{static_objects, with_outside};
+pub use fresh::{Fresh, Storage};
 pub use log::Log;
-pub use memory::{Memory, object_number, offset};
+pub use memory::{add, add_all, add_function, add_zeros, let_die, rewrite_all};
 pub use number::{compute, size};
-pub use object::{ObjKind, Object};
 pub use report::{End, RunReport, Which};
 pub use sets::{Range, WriteSet};

@@ -1,181 +1,132 @@
-// The memory of a run.
-ghost use Rattle.std.specs.Prelude.{◌≡◌, true, ◌<◌, ◌≤◌, ◌+◌, ◌-◌, ◌*◌, ◌/◌, ◌%◌, ◌^◌, [], ◌∷◌, ◌++◌, length, map, take, drop, Some, OnOk, OnErr, option_map, option_copied};
-ghost use Rattle.dc_core.specs.Memory.{object_of, offset_of, object_at, update, put_at, with_bytes, holds_range, is_inside, bytes_of, number_of as number_in, bytes_at, load, store, changed, killed};
-ghost use Rattle.dc_world.specs.View.{object_view, objects_view, memory_view};
-ghost use Rattle.dc_world.specs.Stored.{IsStored};
+// What runs do to a memory beside loads and stores.
+ghost use Rattle.std.specs.Prelude.{◌≡◌, ◌<◌, ◌^◌, ◌∷◌, [], ◌++◌, suc, replicate, OnErr, OnOk};
+ghost use Rattle.dc_memory.specs.Objects.{changed, function_kind, holding};
+ghost use Rattle.dc_memory.specs.Places.{with_bytes};
+ghost use Rattle.dc_core.specs.Objects.{died, function_object, rewritten};
+ghost use Rattle.dc_world.specs.View.{kind_view, object_view, objects_view};
 
-use crate::number::size;
-use crate::object::Object;
-use dc_core::NumKind;
-use dc_num::{bits, convert};
-use sqlite_items::at;
-use std::alloc::{AllocError, Global};
+use crate::fresh::{Fresh, Storage};
+use dc_memory::{Create, ObjKind, Store};
+use std::alloc::AllocError;
 
-/// Objects, numbered from 1 in the order of their creation. Each has a vector for its bytes.
-#[derive(Debug, Drop)]
-pub struct Memory {
-    objects: Vec<Object>,
+// Why no object was created, where there are fewer than 65,535.
+fn wanting(fault: Create) -> AllocError {
+    match fault {
+        Create::Full => AllocError,
+        Create::Memory(error) => error,
+    }
 }
 
-/// The number of the object that a pointer points into.
-#[tactic(auto, unfolding(dc_core::specs::Memory::object_of))]
-pub fn object_number(pointer: u64) -> u64
-    ensures { result ≡ object_of pointer }
+/// Adds a function. Where there may be no more objects, that is answered as want of memory; nothing has changed then.
+pub fn add_function(memory: &mut Store) -> Result<(), AllocError>
+    ensures ok { OnOk result (memory.new ≡ memory.old ++ function_object ∷ []) }
+    ensures refused { OnErr result (memory.new ≡ memory.old) }
 {
-    pointer / 281474976710656
+    match memory.create(ObjKind::Function, true, 0) {
+        Ok(_) => Ok(()),
+        Err(fault) => Err(wanting(fault)),
+    }
 }
 
-/// The offset in its object that a pointer has.
-#[tactic(auto, unfolding(dc_core::specs::Memory::offset_of))]
-pub fn offset(pointer: u64) -> u64
-    ensures value { result ≡ offset_of pointer }
-    ensures below { result < 2 ^ 48 }
+/// Adds a live object of so many zero bytes. One that may not be added, since there are too many or it has more than
+/// 16,777,216 bytes, is answered as want of memory; nothing has changed then.
+pub fn add_zeros(memory: &mut Store, storage: Storage, size: u64) -> Result<(), AllocError>
+    ensures ok { OnOk result (memory.new ≡ memory.old ++ holding (kind_view storage) (replicate size 0) ∷ []) }
+    ensures refused { OnErr result (memory.new ≡ memory.old) }
 {
-    pointer % 281474976710656
+    if size > 16777216 {
+        return Err(AllocError);
+    }
+    match memory.create(storage.kind(), true, size) {
+        Ok(_) => Ok(()),
+        Err(fault) => Err(wanting(fault)),
+    }
 }
 
-// The number that the bytes spell, the lowest first.
-fn number_of(bytes: &[u8]) -> u64
-    requires { length bytes.now ≤ 8 }
-    ensures value { result ≡ number_in bytes.now }
-    ensures below { result < 256 ^ length bytes.now }
+/// Adds an object that was drawn. One that may not be added, since there are too many or it has more than 16,777,216
+/// bytes, is answered as want of memory; nothing has changed then.
+pub fn add(memory: &mut Store, object: Fresh) -> Result<(), AllocError>
+    ensures ok { OnOk result (memory.new ≡ memory.old ++ object_view object ∷ []) }
+    ensures refused { OnErr result (memory.new ≡ memory.old) }
 {
-    match bytes {
-        [] => 0,
-        [first, rest @ ..] => *first as u64 + 256 * number_of(rest),
+    let added = match object {
+        Fresh::Dead(storage) => memory.create(storage.kind(), false, 0),
+        Fresh::Live(storage, bytes) => {
+            if bytes.len() > 16777216 {
+                return Err(AllocError);
+            }
+            memory.create_with(storage.kind(), bytes)
+        }
+    };
+    match added {
+        Ok(_) => Ok(()),
+        Err(fault) => Err(wanting(fault)),
     }
 }
 
-// Writes the last bytes of a number from an index on, the lowest first.
-fn put(bytes: &mut Vec<u8>, from: usize, count: usize, number: u64)
-    requires { from + count ≤ length bytes.old.items }
-    ensures { bytes.new.items ≡ put_at from (bytes_of count number) bytes.old.items }
+/// Adds objects that were drawn, in their order, as `add` does.
+pub fn add_all(memory: &mut Store, objects: Vec<Fresh>) -> Result<(), AllocError>
+    ensures { OnOk result (memory.new ≡ memory.old ++ objects_view objects.items) }
 {
-    if count > 0 {
-        bytes[from] = (number % 256) as u8;
-        put(bytes, from + 1, count - 1, number / 256);
+    for object in objects {
+        add(memory, object)?;
+    }
+    Ok(())
+}
+
+// Whether the kind is a function's.
+fn is_function(kind: ObjKind) -> bool
+    ensures { result ≡ function_kind kind }
+{
+    matches!(kind, ObjKind::Function)
+}
+
+/// The object of the number dies, if it is live and no function.
+pub fn let_die(memory: &mut Store, number: u64)
+    ensures { memory.new ≡ changed number died memory.old }
+{
+    let Some((kind, live, _)) = memory.look(number) else {
+        return;
+    };
+    if live && !is_function(kind) {
+        memory.kill(number);
     }
 }
 
-impl Object {
-    // Whether the object is live and has the range.
-    fn holds(&self, from: u64, len: u64) -> bool
-        ensures { result ≡ holds_range (Some (object_view self.now)) from len }
-    {
-        self.live && from as u128 + len as u128 <= self.bytes.len() as u128
+// Writes bytes into the object of the number from its first byte on, as many as it has room for.
+fn rewrite(memory: &mut Store, number: u64, bytes: &[u8])
+    ensures { memory.new ≡ changed number (with_bytes 0 bytes.now) memory.old }
+{
+    if number > memory.count() {
+        return;
+    }
+    let Some((_, live, size)) = memory.look(number) else {
+        return;
+    };
+    let count = bytes.len().min(size as usize);
+    if live {
+        memory.put(number * 281474976710656, &bytes[..count]);
     }
 }
 
-impl Memory {
-    /// A memory without objects. It takes no memory.
-    pub fn new(alloc: Global) -> Memory
-        ensures { memory_view result ≡ [] }
-    {
-        Memory {
-            objects: Vec::new(alloc),
-        }
+// Writes the bytes of an object that was drawn into that of the number.
+fn rewrite_as(memory: &mut Store, number: u64, object: &Fresh)
+    ensures { memory.new ≡ changed number (with_bytes 0 (object_view object.now).bytes) memory.old }
+{
+    match object {
+        Fresh::Dead(_) => (),
+        Fresh::Live(_, bytes) => rewrite(memory, number, bytes.as_slice()),
     }
+}
 
-    /// How many objects there are, the dead ones too.
-    pub fn count(&self) -> u64
-        ensures value { result ≡ length (memory_view self.now) }
-        ensures few { result < 2 ^ 63 }
-    {
-        self.objects.len() as u64
-    }
-
-    // The object of a number.
-    fn object(&self, number: u64) -> Option<&Object>
-        ensures { option_map object_view (option_copied result) ≡ object_at (memory_view self.now) number }
-    {
-        if number == 0 {
-            return None;
-        }
-        at(self.objects.as_slice(), (number - 1) as usize)
-    }
-
-    /// Whether the range is wholly inside one live object.
-    pub fn is_inside(&self, pointer: u64, len: u64) -> bool
-        ensures { result ≡ is_inside (memory_view self.now) pointer len }
-    {
-        match self.object(object_number(pointer)) {
-            None => false,
-            Some(object) => object.holds(offset(pointer), len),
-        }
-    }
-
-    /// The value of the kind at a place, where the place is inside a live object.
-    #[tactic(auto, unfolding(dc_core::specs::Memory::load))]
-    pub fn load(&self, kind: NumKind, pointer: u64) -> Option<i128>
-        ensures { result ≡ load kind pointer (memory_view self.now) }
-    {
-        let object = self.object(object_number(pointer))?;
-        let from = offset(pointer);
-        let len = size(kind);
-        if !object.holds(from, len) {
-            return None;
-        }
-        let bytes = &object.bytes.as_slice()[from as usize..(from + len) as usize];
-        Some(convert(kind, number_of(bytes) as i128))
-    }
-
-    /// Writes a value of the kind at a place, where the place is inside a live object, and says whether it is.
-    #[tactic(auto, unfolding(dc_core::specs::Memory::store))]
-    pub fn store(&mut self, kind: NumKind, pointer: u64, z: i128) -> bool
-        ensures { IsStored result (store kind pointer z (memory_view self.old)) (memory_view self.old) (memory_view self.new) }
-    {
-        let len = size(kind);
-        if !self.is_inside(pointer, len) {
-            return false;
-        }
-        self.put_bits(object_number(pointer), offset(pointer), len, bits(kind, z));
-        true
-    }
-
-    // Writes the last bytes of a number into an object.
-    fn put_bits(&mut self, number: u64, from: u64, len: u64, bits: u64)
-        requires { holds_range (object_at (memory_view self.old) number) from len ≡ true }
-        ensures { memory_view self.new ≡ changed number (with_bytes from (bytes_of len bits)) (memory_view self.old) }
-    {
-        let object = &mut self.objects[(number - 1) as usize];
-        put(&mut object.bytes, from as usize, len as usize, bits);
-    }
-
-    /// One more object.
-    pub fn push(&mut self, object: Object) -> Result<(), AllocError>
-        ensures ok { OnOk result (memory_view self.new ≡ memory_view self.old ++ object_view object ∷ []) }
-        ensures refused { OnErr result (memory_view self.new ≡ memory_view self.old) }
-    {
-        self.objects.push(object)?;
-        Ok(())
-    }
-
-    /// The object of the number dies, where there is one: it holds no bytes any more.
-    pub fn kill(&mut self, number: u64)
-        ensures { memory_view self.new ≡ changed number killed (memory_view self.old) }
-    {
-        if number == 0 || number > self.objects.len() as u64 {
-            return;
-        }
-        let alloc = *self.objects.allocator();
-        let object = &mut self.objects[(number - 1) as usize];
-        object.live = false;
-        object.bytes = Vec::new(alloc);
-    }
-
-    /// Puts objects in the place of those from an index on and before another.
-    pub fn replace(
-        &mut self,
-        from: usize,
-        to: usize,
-        mut objects: Vec<Object>,
-    ) -> Result<(), AllocError>
-        requires { from ≤ to }
-        ensures { OnOk result (memory_view self.new ≡ take from (memory_view self.old) ++ (objects_view objects.items ++ drop to (memory_view self.old))) }
-    {
-        let mut rest = self.objects.split_off(to.min(self.objects.len()))?;
-        self.objects.truncate(from);
-        self.objects.append(&mut objects)?;
-        self.objects.append(&mut rest)
+/// Writes the bytes of objects that were drawn into those of a memory that stand behind so many, in their order.
+pub fn rewrite_all(memory: &mut Store, count: usize, objects: &[Fresh])
+    requires { count < 2 ^ 63 }
+    ensures { memory.new ≡ rewritten (suc count) (objects_view objects.now) memory.old }
+{
+    let mut number = count as u64;
+    for object in objects {
+        number += 1;
+        rewrite_as(memory, number, object);
     }
 }

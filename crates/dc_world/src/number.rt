@@ -2,14 +2,16 @@
 ghost use Rattle.std.specs.Prelude.{◌≡◌, ◌≤◌};
 ghost use Rattle.dc_num.specs.Kinds.{IsValue};
 ghost use Rattle.dc_num.specs.Operators.{IsRight, is_equality as is_equality_operator};
-ghost use Rattle.dc_core.specs.Number.{size_of, computed};
+ghost use Rattle.dc_core.specs.Number.{computed};
+ghost use Rattle.dc_memory.specs.Kinds.{size_of};
+ghost use Rattle.dc_program.specs.Kinds.{mem_kind};
 
 use dc_core::{BinOp, NumKind};
 use dc_num::binary;
 
 /// How many bytes a value of the kind takes.
 pub fn size(kind: NumKind) -> u64
-    ensures value { result ≡ size_of kind }
+    ensures value { result ≡ size_of (mem_kind kind) }
     ensures few { result ≤ 8 }
 {
     match kind {

@@ -2,9 +2,8 @@
 ghost use Rattle.std.specs.Prelude.{◌≡◌, OnOk, [], map};
 ghost use Rattle.dc_core.specs.Contract.{allowed as is_allowed, contains, some_contains, denoted, with_ranges, new_set};
 ghost use Rattle.dc_world.specs.Sets.{range_view, ranges_view, set_view};
-ghost use Rattle.dc_world.specs.View.{memory_view};
 
-use crate::memory::{Memory, object_number, offset};
+use dc_memory::{Store, object_number, offset};
 use std::alloc::{AllocError, Global};
 
 /// Bytes of an object that may be written, with the number of the target that denotes them.
@@ -48,8 +47,8 @@ fn some_range_contains(ranges: &[Range], object: u64, from: u64, len: u64) -> bo
 
 impl WriteSet {
     /// A set without ranges, whose mark is the number of objects of this moment. It takes no memory.
-    pub fn new(alloc: Global, memory: &Memory) -> WriteSet
-        ensures { set_view result ≡ new_set (memory_view memory.now) }
+    pub fn new(alloc: Global, memory: &Store) -> WriteSet
+        ensures { set_view result ≡ new_set memory.now }
     {
         WriteSet {
             mark: memory.count(),
@@ -68,18 +67,18 @@ impl WriteSet {
     /// empty and is wholly inside one live object.
     pub fn add(
         &mut self,
-        memory: &Memory,
+        memory: &Store,
         tag: u64,
         test: bool,
         place: Option<u64>,
         len: Option<u64>,
     ) -> Result<(), AllocError>
-        ensures { OnOk result (set_view self.new ≡ with_ranges (denoted tag (memory_view memory.now) test place len) (set_view self.old)) }
+        ensures { OnOk result (set_view self.new ≡ with_ranges (denoted tag memory.now test place len) (set_view self.old)) }
     {
         let (Some(pointer), Some(len)) = (place, len) else {
             return Ok(());
         };
-        if !(test && len > 0 && memory.is_inside(pointer, len)) {
+        if !(test && len > 0 && memory.inside(pointer, len)) {
             return Ok(());
         }
         self.ranges.push(Range {

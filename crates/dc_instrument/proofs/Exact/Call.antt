@@ -3,6 +3,7 @@ use Rattle.std.proofs.Common.{◌≡◌, ℕ, zero, suc, ◌+◌, ◌-◌, ◌<�
 use Rattle.std.specs.Prelude.{◌⊎◌, slice_get, replicate, map, nat_lt, if◌then◌else◌}
 use Rattle.dc_core.specs.Event.{End, Return as CameBack}
 use Rattle.dc_core.specs.Event as end
+use Rattle.dc_memory.specs.Objects.{Memory}
 use Rattle.dc_core.specs.World.{left, kill_events}
 use Rattle.dc_core.specs.Program.{Function, Program}
 use Rattle.dc_core.specs.Contract.{WriteSet}
@@ -16,7 +17,7 @@ use Rattle.dc_goto.proofs.Steps.{one, steps_join}
 use Rattle.dc_goto.proofs.Registers.{get-back, get-front, get-there, get-map, length-map, pointwise-refl}
 use Rattle.dc_instrument.specs.Lowering.{statements_code, parameters_code, last_instr, function_body, argument_terms, result_register, goto_of}
 use Rattle.dc_instrument.proofs.Exact.Values.{Held, AllHeld}
-use Rattle.dc_instrument.proofs.Exact.Parameters.{pointer_register, body_registers, AllInts, AllSmall, Made, Full, parameters_follow}
+use Rattle.dc_instrument.proofs.Exact.Parameters.{pointer_register, body_registers, AllSmall, Made, Full, parameters_follow}
 use Rattle.dc_instrument.proofs.Exact.Follow.{Comes, Stops, Waits, Leaves, Spot, now, in_body, ResultFits, Follows, after}
 use Rattle.dc_instrument.proofs.Exact.Statements.{statements_follow}
 
@@ -101,11 +102,11 @@ length-body_registers arguments made n =
 -- the body from its first instruction on
 body_finishes : (p : Program) (g : GotoProgram) (c : Spot) (set : WriteSet) (outer : List WriteSet) (arguments : List ℤ) (st : State)
     → IsSound p → c.name ≡ p.function.name → c.code ≡ (function_body p.function).code → c.sets ≡ set ∷ outer
-    → length arguments ≡ p.function.params → AllInts arguments
+    → length arguments ≡ p.function.params
     → Finishes g p.function.gives_int c (in_body c 0 (body_registers arguments [] (length arguments + length p.function.body)) st.world) st.left
     (finished p.function (with_parameters contract_mode arguments [] st (λ places t. run contract_mode c.name set places p.function.body t)))
-body_finishes p g c set outer arguments st sound ename ecode esets elen ints =
-    by (parameters_follow g c.name arguments first 0 [] arguments [] (length f.body) st s refl (sym elen) refl refl ints tt refl refl)
+body_finishes p g c set outer arguments st sound ename ecode esets elen =
+    by (parameters_follow g c.name arguments first 0 [] arguments [] (length f.body) st s refl (sym elen) refl refl tt refl refl)
   where
     f : Function
     f = p.function
@@ -178,7 +179,7 @@ Calls g gives_int m r n (Ended notes end w) = Stops g m (fails notes) end w
 Calls g gives_int m r n (Cut notes w) = Waits g m (fails notes) n
 
 -- the arguments' registers
-arguments_values : (memory : List Rattle.dc_core.specs.Memory.Object) (done rest : List ℤ) (regs more : Registers) (i : ℕ) → i ≡ length done → regs ≡ map Some (done ++ rest) ++ more → term_values regs memory (argument_terms i (length rest)) ≡ Some rest
+arguments_values : (memory : Memory) (done rest : List ℤ) (regs more : Registers) (i : ℕ) → i ≡ length done → regs ≡ map Some (done ++ rest) ++ more → term_values regs memory (argument_terms i (length rest)) ≡ Some rest
 arguments_values memory done [] regs more i ei er = refl
 arguments_values memory done (v ∷ rest) regs more i ei er =
     let here : slice_get regs i ≡ Some (Some v) = ap (λ l. slice_get l i) er ∙ argument done more i ei in
@@ -204,11 +205,11 @@ shallow = refl
 pub call_follows : (p : Program) (m : Machine) (set : WriteSet) (arguments : List ℤ) (more : Registers) (st : State)
     → IsSound p → m.frames ≡ [] → m.now.sets ≡ set ∷ [] → m.now.world ≡ st.world
     → slice_get m.code m.place ≡ Some (Call (result_register p.function) p.function.name (argument_terms 0 p.function.params))
-    → length arguments ≡ p.function.params → AllInts arguments → m.now.regs ≡ map Some arguments ++ more
+    → length arguments ≡ p.function.params → m.now.regs ≡ map Some arguments ++ more
     → Calls (goto_of p) p.function.gives_int m (result_register p.function) st.left (call contract_mode p.function set arguments st)
-call_follows p m set arguments more st sound eframes esets eworld has elen ints eregs =
+call_follows p m set arguments more st sound eframes esets eworld has elen eregs =
     by (finished f (with_parameters contract_mode arguments [] (without_locals st) (λ places t. run contract_mode f.name set places f.body t)))
-    (body_finishes p g c set [] arguments (without_locals st) sound refl refl esets elen ints)
+    (body_finishes p g c set [] arguments (without_locals st) sound refl refl esets elen)
   where
     f : Function
     f = p.function

@@ -10,7 +10,7 @@ use Rattle.dc_core.specs.Assertion.{postcondition_name}
 use Rattle.dc_core.specs.Event.{Event, End}
 use Rattle.dc_core.specs.Event as end
 use Rattle.dc_core.specs.Choices.{Drawn, Drew, Dry, after, bind, draw_value, give}
-use Rattle.dc_core.specs.Memory.{Memory}
+use Rattle.dc_memory.specs.Objects.{Memory}
 use Rattle.dc_core.specs.Entry.{draw_arguments}
 use Rattle.dc_core.specs.Program.{Expr, Program}
 use Rattle.dc_core.specs.Value.{Scope, Clause, value, place}

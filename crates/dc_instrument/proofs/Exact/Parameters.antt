@@ -5,13 +5,14 @@ use Rattle.std.specs.Option.{option_map}
 use Rattle.std.proofs.lemmas.Bool.Decides.{nat_tests}
 use Rattle.dc_num.specs.declared.kind.NumKind.TheVariants.{S32}
 use Rattle.dc_num.specs.Kinds.{IsValue}
-use Rattle.dc_num.specs.Conversions.{converted}
 use Rattle.dc_core.specs.Event.{End, Create}
 use Rattle.dc_core.specs.Event as end
-use Rattle.dc_core.specs.Memory.{encoded, store, start_of, object_limit}
+use Rattle.dc_memory.specs.declared.kind.MemKind.TheVariants as mem
+use Rattle.dc_memory.specs.Places.{start_of}
+use Rattle.dc_memory.specs.Encoding.{encoded}
+use Rattle.dc_memory.specs.Access.{store}
 use Rattle.dc_core.specs.World.{World, is_full, next_object, with_local}
 use Rattle.dc_core.specs.Run.{State, Out, Ended, Note, Did, noted, unless, contract_mode, with_parameters, with_parameter}
-use Rattle.dc_core.proofs.Numbers.{converted-value}
 use Rattle.dc_core.proofs.Objects.{start_of-small, store-new}
 use Rattle.dc_core.proofs.Outs.{noted-nil, noted-noted}
 use Rattle.dc_goto.specs.Program.{Instr, LocalZero, Init, GotoProgram}
@@ -43,7 +44,6 @@ small-append [] q a h = (h, tt)
 small-append (x ∷ xs) q a h = (a.0, small-append xs q a.1 h)
 
 room_left : (w : World) → is_full w ≡ false → next_object w ≤ 65535
-unfolding object_limit
 room_left w h = grind (arith, nat_tests)
 
 -- all arguments became objects
@@ -107,13 +107,13 @@ body_registers-argument done rest v places n k e =
 
 -- the instructions for one argument
 one_parameter : (p : GotoProgram) (name : List ℕ) (first i : ℕ) (v : ℤ) (code : List Instr) (regs : Registers) (w : World) (s : Now)
-    → is_full w ≡ false → IsValue S32 v → s.world ≡ w
+    → is_full w ≡ false → s.world ≡ w
     → slice_set s.regs (first + i) (Some (pos (start_of (next_object w)))) ≡ regs
     → slice_get regs (first + i) ≡ Some (Some (pos (start_of (next_object w))))
     → slice_get regs i ≡ Some (Some v)
     → line p name (LocalZero (first + i) 4 ∷ Init S32 (Register (first + i)) (Register i) ∷ code) s
-    ≡ before (Did (Create (next_object w)) ∷ []) (line p name code (record s { regs = regs; world = with_local (encoded S32 v) w }))
-one_parameter p name first i v code regs w s free int ew er pointer argument =
+    ≡ before (Did (Create (next_object w)) ∷ []) (line p name code (record s { regs = regs; world = with_local (encoded mem.S32 v) w }))
+one_parameter p name first i v code regs w s free ew er pointer argument =
     let q = start_of (next_object w) in
     let zeros : World = with_local (replicate 4 0) w in
     let s1 : Now = record s { regs = regs; world = zeros } in
@@ -122,17 +122,16 @@ one_parameter p name first i v code regs w s free int ew er pointer argument =
     (ap (λ x. local_created (is_full x) (first + i) 4 (record s { world = x })) ew
     ∙ ap (λ b. local_created b (first + i) 4 (record s { world = w })) free
     ∙ ap (λ l. Next (Did (Create (next_object w)) ∷ []) (record s { regs = l; world = zeros })) er) in
-    let store_it : store S32 q (converted S32 v) zeros.memory ≡ Some (with_local (encoded S32 v) w).memory =
-    ap (λ z. store S32 q z zeros.memory) (converted-value v int) ∙ store-new w.memory v in
+    let store_it : store mem.S32 q v zeros.memory ≡ Some (with_local (encoded mem.S32 v) w).memory = store-new w.memory v in
     let as_q : as_natural (pos q) ≡ q = as_natural-pos q (start_of-small (next_object w) (room_left w free)) in
-    let init : act p name (Init S32 (Register (first + i)) (Register i)) s1 ≡ Next [] (record s { regs = regs; world = with_local (encoded S32 v) w }) =
-    ap (λ o. given name zeros (natural o) (λ pointer. given name zeros (register_value (slice_get regs i)) (λ x. given name zeros (store S32 pointer (converted S32 x) zeros.memory) (λ memory. Next [] (with_memory memory s1))))) pointer
-    ∙ ap (λ n. given name zeros (register_value (slice_get regs i)) (λ x. given name zeros (store S32 n (converted S32 x) zeros.memory) (λ memory. Next [] (with_memory memory s1)))) as_q
-    ∙ ap (λ o. given name zeros (register_value o) (λ x. given name zeros (store S32 q (converted S32 x) zeros.memory) (λ memory. Next [] (with_memory memory s1)))) argument
+    let init : act p name (Init S32 (Register (first + i)) (Register i)) s1 ≡ Next [] (record s { regs = regs; world = with_local (encoded mem.S32 v) w }) =
+    ap (λ o. given name zeros (natural o) (λ pointer. given name zeros (register_value (slice_get regs i)) (λ x. given name zeros (store mem.S32 pointer x zeros.memory) (λ memory. Next [] (with_memory memory s1))))) pointer
+    ∙ ap (λ n. given name zeros (register_value (slice_get regs i)) (λ x. given name zeros (store mem.S32 n x zeros.memory) (λ memory. Next [] (with_memory memory s1)))) as_q
+    ∙ ap (λ o. given name zeros (register_value o) (λ x. given name zeros (store mem.S32 q x zeros.memory) (λ memory. Next [] (with_memory memory s1)))) argument
     ∙ ap (λ o. given name zeros o (λ memory. Next [] (with_memory memory s1))) store_it in
     enter
     ∙ ap (before (Did (Create (next_object w)) ∷ []))
-    (ap (λ t. then_next t (line p name code)) init ∙ before-nil (line p name code (record s { regs = regs; world = with_local (encoded S32 v) w })))
+    (ap (λ t. then_next t (line p name code)) init ∙ before-nil (line p name code (record s { regs = regs; world = with_local (encoded mem.S32 v) w })))
   where
     natural : Option (Option ℤ) → Option ℕ
     natural o = option_map as_natural (register_value o)
@@ -140,9 +139,9 @@ one_parameter p name first i v code regs w s free int ew er pointer argument =
 -- arguments become objects on both sides
 pub parameters_follow : (p : GotoProgram) (name : List ℕ) (arguments : List ℤ) (first i : ℕ) (done rest : List ℤ) (places : List ℕ) (r : ℕ) (st : State) (s : Now)
     → arguments ≡ done ++ rest → first ≡ length arguments → i ≡ length places → length places ≡ length done
-    → AllInts rest → AllSmall places → s.regs ≡ body_registers arguments places (length rest + r) → s.world ≡ st.world
+    → AllSmall places → s.regs ≡ body_registers arguments places (length rest + r) → s.world ≡ st.world
     → Made p name arguments first i rest places r st s ⊎ Full p name first i rest places st s
-parameters_follow p name arguments first i done [] places r st s ea ef ei ec ints small er ew =
+parameters_follow p name arguments first i done [] places r st s ea ef ei ec small er ew =
     let n : zero + r ≡ r = omega arith in
     inl (record {
       notes = [];
@@ -154,10 +153,10 @@ parameters_follow p name arguments first i done [] places r st s ea ef ei ec int
       small = small;
       left = refl;
     })
-parameters_follow p name arguments first i done (v ∷ rest) places r st s ea ef ei ec ints small er ew =
+parameters_follow p name arguments first i done (v ∷ rest) places r st s ea ef ei ec small er ew =
     by (is_full st.world) refl
     (λ free. parameters_follow p name arguments first (suc i) (done ++ v ∷ []) rest (places ++ q ∷ []) r (with_parameter v st) s2
-    (ea ∙ sym (append_assoc done (v ∷ []) rest)) ef (omega (arith, length-append places (q ∷ []))) (omega (arith, length-append places (q ∷ []), length-append done (v ∷ []))) ints.1
+    (ea ∙ sym (append_assoc done (v ∷ []) rest)) ef (omega (arith, length-append places (q ∷ []))) (omega (arith, length-append places (q ∷ []), length-append done (v ∷ [])))
     (small-append places q small (start_of-small (next_object w) (room_left w free))) refl refl)
   where
     w : World
@@ -173,7 +172,7 @@ parameters_follow p name arguments first i done (v ∷ rest) places r st s ea ef
     regs = body_registers arguments (places ++ q ∷ []) (length rest + r)
 
     s2 : Now
-    s2 = record s { regs = regs; world = with_local (encoded S32 v) w }
+    s2 = record s { regs = regs; world = with_local (encoded mem.S32 v) w }
 
     more : List Note
     more = Did (Create (next_object w)) ∷ []
@@ -199,7 +198,7 @@ parameters_follow p name arguments first i done (v ∷ rest) places r st s ea ef
 
     stepped : is_full w ≡ false → line p name (parameters_code first i (suc (length rest))) s ≡ before more (line p name code s2)
     stepped free =
-        one_parameter p name first i v code regs w s free ints.0 ew set_it
+        one_parameter p name first i v code regs w s free ew set_it
         (body_registers-pointer arguments places [] q (length rest + r) (first + i) at_place) argument
 
     goes : is_full w ≡ false → Made p name arguments first (suc i) rest (places ++ q ∷ []) r (with_parameter v st) s2 ⊎ Full p name first (suc i) rest (places ++ q ∷ []) (with_parameter v st) s2

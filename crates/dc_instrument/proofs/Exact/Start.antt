@@ -1,11 +1,13 @@
 -- The start does what the entry does, up to its call.
-use Rattle.std.proofs.Common.{◌≡◌, ℕ, ◌+◌, Bool, true, false, List, [], ◌∷◌, ◌++◌, length, Option, Some, None, refl, ap, sym, ◌∙◌, subst, arith, ℤ, pos, append-nil}
-use Rattle.std.specs.Prelude.{replicate, map, drop, codes, if◌then◌else◌}
-use Rattle.std.proofs.lemmas.List.{drop_all}
+use Rattle.std.proofs.Common.{◌≡◌, ℕ, ◌+◌, Bool, true, false, List, [], ◌∷◌, ◌++◌, length, Option, Some, None, refl, ap, sym, ◌∙◌, subst, ℤ, pos, append-nil}
+use Rattle.std.specs.Prelude.{replicate, map, codes, if◌then◌else◌}
 use Rattle.dc_core.specs.Event.{Event, End}
 use Rattle.dc_core.specs.Event as end
 use Rattle.dc_core.specs.Choices.{Drawn, Drew, Dry, after, bind}
-use Rattle.dc_core.specs.Memory.{Memory, Object, Static, function_object, holding}
+use Rattle.dc_memory.specs.declared.object.ObjKind.TheVariants.{Static}
+use Rattle.dc_memory.specs.Objects.{Memory, holding}
+use Rattle.dc_core.specs.Objects.{function_object, rewritten}
+use Rattle.dc_core.specs.WellFormed.{AreStatics}
 use Rattle.dc_core.specs.World.{World}
 use Rattle.dc_core.specs.Entry.{static_objects, with_outside, draw_arguments, static_sizes}
 use Rattle.dc_core.specs.Program.{Program, Function}
@@ -18,10 +20,10 @@ use Rattle.dc_goto.specs.Machine.{Registers, Now, Next, drawn, required as requi
 use Rattle.dc_goto.proofs.Notes.{fails, fails-append, fails-did}
 use Rattle.dc_goto.proofs.Line.{HasAt, has_front, has_back, line, line_next, line_ends, before, then_next, before-nil, at}
 use Rattle.dc_goto.proofs.Steps.{steps_join}
-use Rattle.dc_goto.proofs.Registers.{length-map}
 use Rattle.dc_instrument.specs.Lowering.{int_static, draws_code, group_code, require_code, ranges_code, checks_code, call_code, start_code, start_regs, result_value, clauses_of, goto_of}
 use Rattle.dc_instrument.proofs.Exact.Values.{Fits}
 use Rattle.dc_instrument.proofs.Exact.Parameters.{AllInts}
+use Rattle.dc_instrument.proofs.Exact.Variables.{DrewStatics, drawn-statics, rewritten-statics}
 use Rattle.dc_instrument.proofs.Exact.Follow.{Comes}
 use Rattle.dc_instrument.proofs.Exact.Entry.{clause_fits, requires_line, ranges_line, DrawsFollow, draws_follow}
 
@@ -240,16 +242,15 @@ sizes_same : (names : List (List ℕ)) → map (λ v. v.size) (map int_static na
 sizes_same [] = refl
 sizes_same (name ∷ names) = ap (λ l. 4 ∷ l) (sizes_same names)
 
-drop_first : (n : ℕ) (x : Object) (xs : Memory) → length xs ≡ n → drop (1 + n) (x ∷ xs) ≡ []
-drop_first n x xs e = drop_all (1 + n) (x ∷ xs) (omega arith)
+zeros_same : (names : List (List ℕ)) → map (λ v. holding Static (replicate v.size 0)) (map int_static names) ≡ map (λ size. holding Static (replicate size 0)) (map (λ name. 4) names)
+zeros_same [] = refl
+zeros_same (name ∷ names) = ap (λ l. holding Static (replicate 4 0) ∷ l) (zeros_same names)
 
--- the variables' objects take the place of the first ones
-statics_memory : (p : Program) (statics : Memory) → with_statics (goto_of p) statics (first_memory (goto_of p)) ≡ function_object ∷ statics
-statics_memory p statics =
-    let zeros = map (λ v. holding Static (replicate v.size 0)) (map int_static p.statics) in
-    let n = length-map (λ v. holding Static (replicate v.size 0)) (map int_static p.statics) in
-    ap (λ l. function_object ∷ (statics ++ l)) (drop_first (length (map int_static p.statics)) function_object zeros n)
-    ∙ ap (λ l. function_object ∷ l) (append-nil statics)
+-- the variables' bytes are written into the objects that stand behind the function
+statics_memory : (p : Program) (statics : Memory) → AreStatics (static_sizes p) statics → with_statics (goto_of p) statics (first_memory (goto_of p)) ≡ function_object ∷ statics
+statics_memory p statics are =
+    ap (λ zeros. rewritten 2 statics (function_object ∷ zeros)) (zeros_same p.statics)
+    ∙ rewritten-statics (function_object ∷ []) (static_sizes p) statics are
 
 -- the outside objects
 outside_stage : (p : Program) (events : List Event) (statics : Memory) (st : State) (s : Now)
@@ -328,11 +329,12 @@ entry_follows p st w sound ew =
         → EntryFollows g f (in_start f 0 s0) (call_place f) st.left (with_entry f st (bind d (λ statics. with_outside (function_object ∷ statics))))
     by (Drew statics rest more) e =
         let t = with_choices rest st in
+        let are : AreStatics (static_sizes p) statics = subst (DrewStatics (static_sizes p)) e (drawn-statics (static_sizes p) st.world.choices) in
         let s1 : Now = record s0 { world = (with_memory (with_statics g statics (first_memory g)) t).world } in
         let comes = comes_line g f 0 (Statics ∷ []) s0 s1 (map Did more ++ []) has (acts (Drew statics rest more) e) in
         entry_after g f (in_start f 0 s0) (in_start f 1 s1) (call_place f) st.left _
         (record { count = comes.count; notes = comes.notes; by = comes.by; same = comes.same ∙ ap fails (append-nil (map Did more)) ∙ fails-did more })
-        (outside_stage p more statics t s1 sound (ap (λ m. record s0 { world = (with_memory m t).world }) (statics_memory p statics)))
+        (outside_stage p more statics t s1 sound (ap (λ m. record s0 { world = (with_memory m t).world }) (statics_memory p statics are)))
     by (Dry more) e =
         record {
           count = 1;

@@ -4,18 +4,20 @@ use Rattle.std.specs.Prelude.{◌⊎◌, slice_set, map, if◌then◌else◌, Al
 use Rattle.std.proofs.lemmas.List.Elements.{All-head, All-tail}
 use Rattle.dc_num.specs.declared.kind.NumKind.TheVariants.{S32}
 use Rattle.dc_num.specs.Kinds.{IsValue}
-use Rattle.dc_num.specs.Conversions.{converted}
 use Rattle.dc_core.specs.Assertion.{assigns_name}
 use Rattle.dc_core.specs.Event.{End, Write}
 use Rattle.dc_core.specs.Event as end
-use Rattle.dc_core.specs.Memory.{Memory, object_of, offset_of, is_inside, store}
+use Rattle.dc_memory.specs.declared.kind.MemKind.TheVariants as mem
+use Rattle.dc_memory.specs.Objects.{Memory}
+use Rattle.dc_memory.specs.Places.{object_of, offset_of, is_inside}
+use Rattle.dc_memory.specs.Access.{store}
 use Rattle.dc_core.specs.Program.{Expr, Stmt, Assign, Return as ReturnStmt, Program}
 use Rattle.dc_core.specs.Term.{Term, Register}
 use Rattle.dc_core.specs.Value.{Body, value, place}
 use Rattle.dc_core.specs.Contract.{WriteSet, allowed, claimed, Wrote}
 use Rattle.dc_core.specs.Sound.{Stands, IsLvalue, StmtStands}
 use Rattle.dc_core.specs.Run.{State, Out, Normal, Returned, Ended, Note, Did, Failed, checked, tick_at, with_some, then_do, contract_mode, perform, write, run, with_memory}
-use Rattle.dc_core.proofs.Numbers.{HasInt, converted-value}
+use Rattle.dc_core.proofs.Numbers.{HasInt}
 use Rattle.dc_goto.specs.Program.{Instr, Set, Store, Covers, Return, GotoProgram}
 use Rattle.dc_goto.specs.Machine.{Registers, Now, Then, Next, Ends, Leaves as LeavesWith, given, act, covered, term_value, natural_value, with_register, with_memory as with_now_memory, proceed, Going, left_body}
 use Rattle.dc_goto.proofs.Notes.{fails, fails-append}
@@ -41,15 +43,14 @@ set_some g name r e is s v h =
     ∙ before-nil (line g name is (with_register r v s))
 
 store_act : (g : GotoProgram) (name : List ℕ) (a e : Term) (s : Now) (pointer : ℕ) (v : ℤ)
-    → natural_value s.regs s.world.memory a ≡ Some pointer → term_value s.regs s.world.memory e ≡ Some v → IsValue S32 v
-    → act g name (Store S32 a e) s ≡ given name s.world (store S32 pointer v s.world.memory) (λ memory. Next (Did (Write (object_of pointer) (offset_of pointer) 4) ∷ []) (with_now_memory memory s))
-store_act g name a e s pointer v ha he int =
-    ap (λ o. given name s.world o (λ q. given name s.world (term_value s.regs s.world.memory e) (λ x. given name s.world (store S32 q (converted S32 x) s.world.memory) (λ memory. Next (Did (Write (object_of q) (offset_of q) 4) ∷ []) (with_now_memory memory s))))) ha
-    ∙ ap (λ o. given name s.world o (λ x. given name s.world (store S32 pointer (converted S32 x) s.world.memory) (λ memory. Next (Did (Write (object_of pointer) (offset_of pointer) 4) ∷ []) (with_now_memory memory s)))) he
-    ∙ ap (λ z. given name s.world (store S32 pointer z s.world.memory) (λ memory. Next (Did (Write (object_of pointer) (offset_of pointer) 4) ∷ []) (with_now_memory memory s))) (converted-value v int)
+    → natural_value s.regs s.world.memory a ≡ Some pointer → term_value s.regs s.world.memory e ≡ Some v
+    → act g name (Store S32 a e) s ≡ given name s.world (store mem.S32 pointer v s.world.memory) (λ memory. Next (Did (Write (object_of pointer) (offset_of pointer) 4) ∷ []) (with_now_memory memory s))
+store_act g name a e s pointer v ha he =
+    ap (λ o. given name s.world o (λ q. given name s.world (term_value s.regs s.world.memory e) (λ x. given name s.world (store mem.S32 q x s.world.memory) (λ memory. Next (Did (Write (object_of q) (offset_of q) 4) ∷ []) (with_now_memory memory s))))) ha
+    ∙ ap (λ o. given name s.world o (λ x. given name s.world (store mem.S32 pointer x s.world.memory) (λ memory. Next (Did (Write (object_of pointer) (offset_of pointer) 4) ∷ []) (with_now_memory memory s)))) he
 
 -- where the range isn't inside a live object, nothing is written
-store_outside : (pointer : ℕ) (v : ℤ) (memory : Memory) → store S32 pointer v memory ≡ None → is_inside memory pointer 4 ≡ false
+store_outside : (pointer : ℕ) (v : ℤ) (memory : Memory) → store mem.S32 pointer v memory ≡ None → is_inside memory pointer 4 ≡ false
 unfolding store
 store_outside pointer v memory h = by (is_inside memory pointer 4) _ refl h
   where
@@ -57,7 +58,7 @@ store_outside pointer v memory h = by (is_inside memory pointer 4) _ refl h
     by true m e h = cc
     by false m e h = e
 
-store_inside : (pointer : ℕ) (v : ℤ) (memory m' : Memory) → store S32 pointer v memory ≡ Some m' → is_inside memory pointer 4 ≡ true
+store_inside : (pointer : ℕ) (v : ℤ) (memory m' : Memory) → store mem.S32 pointer v memory ≡ Some m' → is_inside memory pointer 4 ≡ true
 unfolding store
 store_inside pointer v memory m' h = by (is_inside memory pointer 4) _ refl h
   where
@@ -153,11 +154,8 @@ assign_follows p g c set outer at_places first r site target e regs st few es he
           target = set_none g c.name r (term_of (places.Body first) e) rest s (sym vs.same ∙ ev);
           same = refl;
         })
-    by_value (Some v) ev = by_store (store S32 ps.pointer v memory) refl
+    by_value (Some v) ev = by_store (store mem.S32 ps.pointer v memory) refl
       where
-        int : IsValue S32 v
-        int = subst HasInt ev vs.int
-
         regs' : Registers
         regs' = slice_set regs r (Some v)
 
@@ -180,11 +178,11 @@ assign_follows p g c set outer at_places first r site target e regs st few es he
             read None = None
             read (Some held) = held
 
-        source_is : source_of (value (Body at_places) memory e) ≡ stored ps.pointer (store S32 ps.pointer v memory)
+        source_is : source_of (value (Body at_places) memory e) ≡ stored ps.pointer (store mem.S32 ps.pointer v memory)
         source_is = ap source_of ev ∙ ap (λ o. written o v) ps.known
 
-        store_is : act g c.name (Store S32 a (Register r)) s' ≡ given c.name st.world (store S32 ps.pointer v memory) (λ m. Next (Did (Write (object_of ps.pointer) (offset_of ps.pointer) 4) ∷ []) (with_now_memory m s'))
-        store_is = store_act g c.name a (Register r) s' ps.pointer v pointer_is register_is int
+        store_is : act g c.name (Store S32 a (Register r)) s' ≡ given c.name st.world (store mem.S32 ps.pointer v memory) (λ m. Next (Did (Write (object_of ps.pointer) (offset_of ps.pointer) 4) ∷ []) (with_now_memory m s'))
+        store_is = store_act g c.name a (Register r) s' ps.pointer v pointer_is register_is
 
         test : Bool → Bool
         test b = if b then allowed set (object_of ps.pointer) (offset_of ps.pointer) 4 else true
@@ -199,7 +197,7 @@ assign_follows p g c set outer at_places first r site target e regs st few es he
             ∙ ap (λ x. before (checked name x) (then_next (act g c.name (Store S32 a (Register r)) s') (line g c.name []))) (covers_is b hb)
             ∙ ap (λ x. before (checked name (test b)) (then_next x (line g c.name []))) ht
 
-        by_store : (o : Option Memory) → store S32 ps.pointer v memory ≡ o → Goal (source_of (value (Body at_places) memory e))
+        by_store : (o : Option Memory) → store mem.S32 ps.pointer v memory ≡ o → Goal (source_of (value (Body at_places) memory e))
         by_store None eo =
             inr (record {
               notes = [];

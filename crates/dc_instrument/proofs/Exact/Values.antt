@@ -5,7 +5,10 @@ use Rattle.std.specs.Option.{option_map}
 use Rattle.dc_num.specs.declared.kind.NumKind.TheVariants.{S32}
 use Rattle.dc_num.specs.declared.operators.BinOp.{BinOp}
 use Rattle.dc_core.specs.Number.{computed}
-use Rattle.dc_core.specs.Memory.{Memory, start_of, load}
+use Rattle.dc_memory.specs.declared.kind.MemKind.TheVariants as mem
+use Rattle.dc_memory.specs.Objects.{Memory}
+use Rattle.dc_memory.specs.Places.{start_of}
+use Rattle.dc_memory.specs.Access.{load}
 use Rattle.dc_core.specs.Program.{Expr, Literal, Variable, Parameter, ReturnValue, Binary, Program}
 use Rattle.dc_core.specs.Term.{Register, Load}
 use Rattle.dc_core.specs.Value.{Scope, Body, value, place, both, variable_place, parameter_value, result_value, load_int}
@@ -55,7 +58,7 @@ pub value_same : (p : Program) (result : Bool) (scope : Scope) (at : Places) (re
 value_same p result scope at regs memory (Literal z) few f s = record { same = refl; int = s }
 value_same p result scope at regs memory (Variable k) few f s =
     record {
-      same = ap (λ pointer. load S32 pointer memory) (sym (variable_pointer (length p.statics) k few s));
+      same = ap (λ pointer. load mem.S32 pointer memory) (sym (variable_pointer (length p.statics) k few s));
       int = HasInt-load (variable_place k) memory;
     }
 value_same p result scope at regs memory (Parameter k) few f s = f.parameters k s
@@ -87,7 +90,7 @@ held_value places regs memory first k h =
     record {
       same =
           ap (load_int memory) h.known
-          ∙ sym (ap (λ o. load_from S32 memory (read o)) h.register ∙ ap (λ pointer. load S32 pointer memory) (as_natural-pos h.pointer h.small));
+          ∙ sym (ap (λ o. load_from S32 memory (read o)) h.register ∙ ap (λ pointer. load mem.S32 pointer memory) (as_natural-pos h.pointer h.small));
       int = made (slice_get places k);
     }
   where

@@ -100,7 +100,7 @@ tests_follow p place arguments result set w sound ints count fits alone has =
     record {
       count = (length checks + 1) + 1;
       notes = (notes ++ []) ++ map Did (map end.Kill w.locals);
-      world = record w { memory = Rattle.dc_core.specs.Memory.kill_all w.locals w.memory; locals = [] };
+      world = record w { memory = Rattle.dc_core.specs.Objects.kill_all w.locals w.memory; locals = [] };
       by =
           steps_join g (length checks + 1) 1 m m2 (notes ++ []) _
           (steps_join g (length checks) 1 m m1 notes _
@@ -113,7 +113,7 @@ tests_follow p place arguments result set w sound ints count fits alone has =
           ∙ append-nil (fails (notes ++ []))
           ∙ ap fails (append-nil notes);
       choices_left = refl;
-      memory = ap (λ l. Rattle.dc_core.specs.Memory.kill_all l w.memory) alone;
+      memory = ap (λ l. Rattle.dc_core.specs.Objects.kill_all l w.memory) alone;
     }
   where
     f : Function
@@ -192,7 +192,7 @@ entered_locals p st = by (Rattle.dc_core.specs.Entry.entry_memory p st.world.cho
     by_arguments t events (Rattle.dc_core.specs.Choices.Drew arguments rest more) e = by_required arguments (Rattle.dc_core.specs.Run.with_choices rest t) (events ++ more) _ e
     by_arguments t events (Rattle.dc_core.specs.Choices.Dry more) e = tt
 
-    by : (d : Rattle.dc_core.specs.Choices.Drawn Rattle.dc_core.specs.Memory.Memory) → EntersAlone st.world.locals (Rattle.dc_core.specs.Run.with_entry p.function st d)
+    by : (d : Rattle.dc_core.specs.Choices.Drawn Rattle.dc_memory.specs.Objects.Memory) → EntersAlone st.world.locals (Rattle.dc_core.specs.Run.with_entry p.function st d)
     by (Rattle.dc_core.specs.Choices.Drew memory rest events) = by_arguments (Rattle.dc_core.specs.Run.with_choices rest (Rattle.dc_core.specs.Run.with_memory memory st)) events _ refl
     by (Rattle.dc_core.specs.Choices.Dry events) = tt
 
@@ -226,7 +226,7 @@ from_call : (p : Program) (choices : List ℕ) (events : List Event) (arguments 
     → Alike p choices t.left (noted (map Did events) (ensured p.function arguments (call contract_mode p.function set arguments t)))
 from_call p choices events arguments set t sound alone c =
     by (call contract_mode f set arguments t) (call_locals f set arguments t)
-    (call_follows p (in_start f (call_place f) s) set arguments (spare f) t sound refl refl refl (has_call f).0 c.count c.ints refl)
+    (call_follows p (in_start f (call_place f) s) set arguments (spare f) t sound refl refl refl (has_call f).0 c.count refl)
   where
     f : Function
     f = p.function

@@ -5,10 +5,10 @@ use Rattle.dc_instrument.specs.Lowering.{int_static}
 use Rattle.dc_instrument.proofs.Emitting.{statics_turn}
 use Rattle.dc_instrument.proofs.program.static_vars.Goals as goal
 
-pub loop-name-preserved : goal.loop-name-preserved
-loop-name-preserved c =
+pub loop-variable-preserved : goal.loop-variable-preserved
+loop-variable-preserved c =
     let pushed =
     ap (map static_view) c.in_ok-push.ensures.ok
-    ∙ map-append static_view c.loop-name.vars _
-    ∙ ap (λ name. map static_view c.loop-name.vars ++ int_static name ∷ []) c.in_ok-duplicate.ensures in
-    statics_turn _ _ _ c.args.names.now c.loop-name.name-index c.name-item.result c.loop-name-test.true c.name-item.is c.loop-name.invariant pushed
+    ∙ map-append static_view c.loop-variable.vars _
+    ∙ ap (λ name. map static_view c.loop-variable.vars ++ int_static name ∷ []) c.in_ok-duplicate.ensures in
+    statics_turn _ _ _ c.args.statics.now c.loop-variable.variable-index c.variable-item.result c.loop-variable-test.true c.variable-item.is c.loop-variable.invariant pushed

@@ -1,7 +1,6 @@
 use Rattle.std.proofs.Common.{arith}
-use Rattle.dc_world.specs.View.{memory_view}
 use Rattle.dc_run.proofs.Places.{load-beyond}
 use Rattle.dc_run.proofs.value.load_int.Goals as goal
 
 pub returns-then-place : goal.returns-then-place
-returns-then-place c = load-beyond (memory_view c.args.memory.now) c.args.place c.requires (omega (arith, c.if-place.true))
+returns-then-place c = load-beyond c.args.memory.now c.args.place c.requires (omega (arith, c.if-place.true))

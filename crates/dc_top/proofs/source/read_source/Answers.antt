@@ -12,7 +12,7 @@ use Rattle.dc_top.proofs.source.read_source.Goals as goal
 pub returns-in-Ok-clause-sound : goal.returns-in-Ok-clause-sound
 returns-in-Ok-clause-sound g c =
     match_ok (λ p. IsSourceOf c.deref.result.now c.args.name.now (program_view p)) (λ p. IsSound (program_view p)) (SaysOfSource c.deref.result.now c.args.name.now) c.program_of.result
-    (λ p s. form_is_sound c.deref.result.now (program_view p) s.form) c.program_of.ensures
+    (λ p s. form_is_sound c.deref.result.now (program_view p) s.form) c.program_of.ensures.found
 
 pub returns-in-Ok-clause-says : goal.returns-in-Ok-clause-says
 returns-in-Ok-clause-says g c =
@@ -22,4 +22,4 @@ returns-in-Ok-clause-says g c =
     (λ answer s command e.
     source_says (g.H.Shelf.files c.args.shelf.now) (g.H.Shelf.names c.args.shelf.now) c.args.name.now c.in-Ok.bytes.items answer command c.in-Ok.ensures.whole c.in-Ok.ensures.short
     (subst (λ bytes. SaysOfSource bytes c.args.name.now answer) c.deref.ensures.value s) e)
-    c.program_of.ensures
+    c.program_of.ensures.found

@@ -1,4 +1,4 @@
-use Rattle.dc_core.specs.Memory.{Heap, Stack}
+use Rattle.dc_memory.specs.declared.object.ObjKind.TheVariants.{Heap, Stack}
 use Rattle.dc_world.specs.View.{object_view}
 use Rattle.dc_world.proofs.Drawing.{drawn-dead}
 use Rattle.dc_world.proofs.entry.outside_object.Goals as goal

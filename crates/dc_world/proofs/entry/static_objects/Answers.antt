@@ -2,7 +2,8 @@ use Rattle.std.proofs.Common.{suc, ◌++◌, ◌∷◌, [], drop, get_or, arith,
 use Rattle.std.proofs.lemmas.List.{map-append}
 use Rattle.dc_core.specs.Choices.{draw_bytes}
 use Rattle.dc_core.specs.Entry.{static_objects}
-use Rattle.dc_core.specs.Memory.{Static, holding}
+use Rattle.dc_memory.specs.declared.object.ObjKind.TheVariants.{Static}
+use Rattle.dc_memory.specs.Objects.{holding}
 use Rattle.dc_world.specs.View.{objects_view}
 use Rattle.dc_world.specs.Drawing.{behind}
 use Rattle.dc_world.proofs.Drawing.{resumed_none, resumed_same, resumed_more, resumed_dry, resumed_cut, resumed_stop, drawing_cut, statics-start, statics-more}
@@ -27,5 +28,5 @@ returns-in_default g c =
 
 pub loop-size-preserved : goal.loop-size-preserved
 loop-size-preserved g c =
-    rw (c.push_reserved.ensures.items, c.try_reserve.ensures.items, map-append, c.holding.ensures, add-one)
+    rw (c.push_reserved.ensures.items, c.try_reserve.ensures.items, map-append, add-one)
     (resumed_more (static_objects c.args.sizes.now) (behind (objects_view c.loop-size.objects.items) (static_objects (drop c.loop-size.size-index c.args.sizes.now))) (draw_bytes (get_or c.args.sizes.now c.loop-size.size-index 0)) (λ bytes. behind ((objects_view c.loop-size.objects.items) ++ holding Static bytes ∷ []) (static_objects (drop (suc c.loop-size.size-index) c.args.sizes.now))) c.in-Some.bytes.items _ _ _ _ _ _ c.loop-size.invariant (statics-more (objects_view c.loop-size.objects.items) (drop c.loop-size.size-index c.args.sizes.now) (drop (suc c.loop-size.size-index) c.args.sizes.now) (get_or c.args.sizes.now c.loop-size.size-index 0) (drop-cons c.args.sizes.now c.loop-size.size-index 0 (omega arith))) (rw c.in-Some.is at c.in_ok-bytes.ensures))

@@ -1,10 +1,9 @@
 use Rattle.std.proofs.Common.{◌≡◌, map, reverse, vec_len}
 use Rattle.dc_core.specs.Event.{Kill}
-use Rattle.dc_core.specs.Memory.{kill_all}
+use Rattle.dc_core.specs.Objects.{kill_all}
 use Rattle.dc_core.specs.Run.{Did}
 use Rattle.dc_world.specs.Log.{hearing}
 use Rattle.dc_world.specs.Told.{told}
-use Rattle.dc_world.specs.View.{memory_view}
 use Rattle.dc_machine.proofs.now.Now.kill_locals.Given as goal
 
 abbrev pub decreases-loop-object : goal.decreases-loop-object
@@ -12,7 +11,7 @@ decreases-loop-object g l = vec_len l.self.locals
 
 abbrev pub invariant-loop-object : goal.invariant-loop-object
 invariant-loop-object g l = record {
-  memory : kill_all (reverse l.self.locals.items) (memory_view l.self.memory) ≡ kill_all (reverse l.initial.self.locals.items) (memory_view l.initial.self.memory);
+  memory : kill_all (reverse l.self.locals.items) l.self.memory ≡ kill_all (reverse l.initial.self.locals.items) l.initial.self.memory;
   heard :
       told (map Did (map Kill (reverse l.self.locals.items))) (hearing (g.W.Watch.records l.watch) (g.W.Watch.parts l.watch) l.log)
       ≡ told (map Did (map Kill (reverse l.initial.self.locals.items))) (hearing (g.W.Watch.records l.initial.watch) (g.W.Watch.parts l.initial.watch) l.initial.log);

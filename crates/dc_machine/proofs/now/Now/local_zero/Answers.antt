@@ -4,7 +4,7 @@ use Rattle.dc_goto.specs.Machine.{Next}
 use Rattle.dc_machine.specs.View.{now_view}
 use Rattle.std.proofs.Common.{pos, to_z, of_z}
 use Rattle.dc_core.specs.Event as event
-use Rattle.dc_core.specs.Memory.{start_of}
+use Rattle.dc_memory.specs.Places.{start_of}
 use Rattle.dc_machine.proofs.Acts.{local-full, local-made, start-read}
 use mir.Syntax.{w128}
 use Rattle.dc_machine.proofs.now.Now.local_zero.Goals as goal

@@ -22,4 +22,4 @@ returns-clause-part g c =
     let begun = rw c.new-places.ensures.items at c.in_ok-push_parameters.ensures.part in
     resumed_last (λ choices. with_parameters contract_mode c.args.arguments.now [] (state_view c.args.self.now choices) (λ places t. run contract_mode c.args.f.now.name (set_view c.args.set.now) places (function_view c.args.f.now).body t)) (λ choices. run contract_mode c.args.f.now.name (set_view c.args.set.now) c.push_parameters.new.places.items (function_view c.args.f.now).body (state_view c.push_parameters.new.self choices)) (state_view c.run.new.self) c.run.result _ _ _
     (begun_on (λ choices. with_parameters contract_mode c.args.arguments.now [] (state_view c.args.self.now choices) (λ places t. run contract_mode c.args.f.now.name (set_view c.args.set.now) places (function_view c.args.f.now).body t)) (λ choices. run contract_mode c.args.f.now.name (set_view c.args.set.now) c.push_parameters.new.places.items (function_view c.args.f.now).body (state_view c.push_parameters.new.self choices)) (state_view c.push_parameters.new.self) c.in_ok-push_parameters.field-0 _ _ c.if-not-branch.false (begun (λ places t. run contract_mode c.args.f.now.name (set_view c.args.set.now) places (function_view c.args.f.now).body t)))
-    (rw (c.as_slice.ensures, c.as_slice-2.ensures.value, c.as_slice-3.ensures) at c.run.ensures.part)
+    (rw (c.as_slice.ensures, c.as_slice-2.ensures.value, c.body.ensures) at c.run.ensures.part)

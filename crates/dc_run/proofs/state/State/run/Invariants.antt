@@ -3,7 +3,6 @@ use Rattle.dc_core.specs.Run.{run, contract_mode}
 use Rattle.dc_core.specs.View.{stmt_view}
 use Rattle.dc_world.specs.Log.{hearing}
 use Rattle.dc_world.specs.Sets.{set_view}
-use Rattle.dc_world.specs.View.{memory_view}
 use Rattle.dc_run.specs.Part.{IsResumed}
 use Rattle.dc_run.specs.View.{state_view}
 use Rattle.dc_run.proofs.state.State.run.Given as goal
@@ -14,5 +13,5 @@ invariant-loop-stmt g l = record {
       (λ choices. run contract_mode l.name (set_view l.set) l.places (map stmt_view (drop l.stmt-index l.body)) (state_view l.self choices))
       (hearing (g.W.Watch.records l.initial.watch) (g.W.Watch.parts l.initial.watch) l.initial.log)
       (hearing (g.W.Watch.records l.watch) (g.W.Watch.parts l.watch) l.log);
-  few : length (memory_view l.self.memory) ≤ 65535;
+  few : length l.self.memory ≤ 65535;
 }

@@ -1,4 +1,0 @@
-use Rattle.dc_world.proofs.memory.+put.Given as goal
-
-abbrev pub decreases-put : goal.decreases-put
-decreases-put l = l.count
