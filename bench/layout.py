@@ -31,7 +31,7 @@ ROWS = [
     ["Num(Bool)", "Num(Ptr)", "Num(Bool)", "Num(Bool)"],
     ["Num(S8)", "Grid(S32, 2, 3)", "Num(S8)"],
     ["Structs(6, 2)", "Struct(1)", "Num(Bool)"],
-    ["Num(S8)", "Array(S32, 0)", "Num(S8)"],
+    ["Num(S8)", "Array(S32, 1)", "Num(S8)"],
     ["Array(S8, 16777210)", "Num(S32)"],
 ]
 

@@ -55,9 +55,13 @@ large_offset : offset_answer structs 5 1 ≡ Err TooLarge
 unfolding offset_answer
 large_offset = refl
 
-none_of_large : size_answer structs (Array (Struct 5) 0) ≡ Ok 0
+without_length : size_answer structs (Array (Struct 5) 0) ≡ Err Incomplete
 unfolding size_answer
-none_of_large = refl
+without_length = refl
+
+behind_a_pointer : size_answer structs (Pointer (Array (Struct 5) 0)) ≡ Ok 8
+unfolding size_answer
+behind_a_pointer = refl
 
 open_struct : size_answer structs (Array (Struct 6) 0) ≡ Err Incomplete
 unfolding size_answer

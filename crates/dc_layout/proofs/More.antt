@@ -34,7 +34,7 @@ extent-more : (f g : ℕ → Option Extent) → ((s : ℕ) → IsMore (f s) (g s
 extent-more f g more Void = tt
 extent-more f g more (Num k) = refl
 extent-more f g more (Pointer t) = refl
-extent-more f g more (Array t n) = IsMore-option_map (repeated n) (extent f t) (extent g t) (extent-more f g more t)
+extent-more f g more (Array t n) = IsMore-option_and_then (repeated n) (repeated n) (extent f t) (extent g t) (extent-more f g more t) (λ e. IsMore-same (repeated n e))
 extent-more f g more (Struct s) = more s
 extent-more f g more (Func t ts) = tt
 extent-more f g more (Const t) = extent-more f g more t

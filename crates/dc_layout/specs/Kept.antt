@@ -1,5 +1,5 @@
 -- What the table keeps of its structs, and when it is right.
-use Rattle.std.specs.Prelude.{◌≡◌, ℕ, ◌+◌, ◌<◌, ◌≤◌, ◌*◌, min, max, List, map, Option, Some, None, Result, Ok, Err, IfSome, if◌then◌else◌, nat_lt}
+use Rattle.std.specs.Prelude.{◌≡◌, ℕ, ◌+◌, ◌<◌, ◌≤◌, ◌*◌, ◌==◌, min, max, List, map, Option, Some, None, Result, Ok, Err, IfSome, if◌then◌else◌, nat_lt}
 use Rattle.std.specs.Option.{option_map}
 use Rattle.std.specs.Int.{next_multiple_of}
 use Rattle.dc_layout.specs.declared.capped.Capped.{Capped}
@@ -24,9 +24,9 @@ pub record IsSmall (k : Capped) : Type 0 where
   pub some : 0 < k.align
   pub few : k.align ≤ 8
 
--- so many elements
-abbrev pub capped_array : Capped → ℕ → Capped
-capped_array k count = record { size = capped_size (count * k.size); align = k.align }
+-- so many elements, but not 0
+abbrev pub capped_array : Capped → ℕ → Option Capped
+capped_array k count = if count == 0 then None else Some (record { size = capped_size (count * k.size); align = k.align })
 
 -- members of which the size and the largest alignment are given, with one more behind them
 abbrev pub capped_with : Capped → Capped → Capped

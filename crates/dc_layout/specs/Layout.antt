@@ -1,5 +1,5 @@
 -- Sizes, alignments and offsets in bytes (C11 6.2.8, 6.5.3.4, 6.7.2.1), with the sizes of this project and natural alignment.
-use Rattle.std.specs.Prelude.{ℕ, zero, suc, ◌+◌, ◌*◌, max, List, [], ◌∷◌, fold, map, take, length, slice_index, count_by, is_some, Option, Some, None, Result, Ok, Err, if◌then◌else◌, nat_lt, ◌<◌, ⊤}
+use Rattle.std.specs.Prelude.{ℕ, zero, suc, ◌+◌, ◌*◌, ◌==◌, max, List, [], ◌∷◌, fold, map, take, length, slice_index, count_by, is_some, Option, Some, None, Result, Ok, Err, if◌then◌else◌, nat_lt, ◌<◌, ⊤}
 use Rattle.std.specs.Option.{option_map, option_and_then}
 use Rattle.std.specs.Int.{next_multiple_of}
 use Rattle.dc_layout.specs.declared.fault.Layout.{Layout}
@@ -15,9 +15,9 @@ pub record Extent : Type 0 where
 abbrev pub scalar : ℕ → Extent
 scalar bytes = record { size = bytes; align = bytes }
 
--- an array: elements without a gap, with the alignment of one
-abbrev pub repeated : ℕ → Extent → Extent
-repeated count e = record { size = count * e.size; align = e.align }
+-- an array: elements without a gap, with the alignment of one; none without a length, which is written as 0 (C11 6.2.5 p22)
+abbrev pub repeated : ℕ → Extent → Option Extent
+repeated count e = if count == 0 then None else Some (record { size = count * e.size; align = e.align })
 
 -- where members end that stand one behind the other, each at the next multiple of its alignment
 abbrev pub end_of : List Extent → ℕ
@@ -40,7 +40,7 @@ abbrev pub extent : (ℕ → Option Extent) → PlainType → Option Extent
 extent of_struct Void = None
 extent of_struct (Num k) = Some (scalar (bytes_of k))
 extent of_struct (Pointer t) = Some (scalar 8)
-extent of_struct (Array t n) = option_map (repeated n) (extent of_struct t)
+extent of_struct (Array t n) = option_and_then (repeated n) (extent of_struct t)
 extent of_struct (Struct s) = of_struct s
 extent of_struct (Func t ts) = None
 extent of_struct (Const t) = extent of_struct t

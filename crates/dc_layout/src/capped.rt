@@ -1,5 +1,5 @@
 // Sizes and alignments as they are computed and kept.
-ghost use Rattle.std.specs.Prelude.{◌≡◌, ◌<◌, ◌≤◌};
+ghost use Rattle.std.specs.Prelude.{◌≡◌, ◌<◌, ◌≤◌, IfSome};
 ghost use Rattle.dc_layout.specs.Layout.{scalar};
 ghost use Rattle.dc_layout.specs.Kept.{capped, capped_array, capped_with, capped_whole, IsSmall};
 
@@ -30,16 +30,19 @@ impl Capped {
         }
     }
 
-    /// An array of so many elements.
-    pub fn repeated(self, count: u64) -> Capped
+    /// An array of so many elements; none where there are 0, which stands for an array without a length.
+    pub fn repeated(self, count: u64) -> Option<Capped>
         requires { IsSmall self }
         ensures value { result ≡ capped_array self count }
-        ensures small { IsSmall result }
+        ensures small { IfSome result IsSmall }
     {
-        Capped {
+        if count == 0 {
+            return None;
+        }
+        Some(Capped {
             size: count.saturating_mul(self.size).min(LIMIT + 1),
             align: self.align,
-        }
+        })
     }
 
     /// Members that end at this size and have this largest alignment, with one more behind them.

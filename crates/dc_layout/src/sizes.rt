@@ -23,7 +23,7 @@ fn extent(table: &StructTable, t: &CType) -> Option<Capped>
         CType::Pointer(_) => Some(Capped::scalar(8)),
         CType::Array(element, count) => match extent(table, element.get()) {
             None => None,
-            Some(element) => Some(element.repeated(*count)),
+            Some(element) => element.repeated(*count),
         },
         CType::Struct(s) => table.kept(*s),
         CType::Const(of) => extent(table, of.get()),
@@ -79,7 +79,7 @@ fn within_limit(extent: Option<Capped>) -> Result<Capped, Layout>
 }
 
 /// How many bytes a type has (C11 6.5.3.4): `Incomplete` exactly where a part has no size (void, a function, a struct
-/// without members), else `TooLarge` exactly where it has above 16,777,216 bytes. It takes no memory.
+/// without members, an array of 0 elements, which is one without a length), else `TooLarge` exactly where it has above 16,777,216 bytes. It takes no memory.
 #[tactic(auto, unfolding(crate::specs::Layout::size_answer))]
 pub fn size_of(table: &StructTable, t: &CType) -> Result<u64, Layout>
     ensures { result ≡ size_answer (structs_view table.now) (type_view t.now) }

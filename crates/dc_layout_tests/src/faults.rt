@@ -23,6 +23,31 @@ fn forms(rt: HostRuntime) -> Result<(), Fail> {
     Ok(())
 }
 
+// An array without a length has no size, whatever its elements have; behind a pointer it may be.
+#[test]
+fn without_a_length(rt: HostRuntime) -> Result<(), Fail> {
+    let table = StructTable::new(rt.alloc());
+    let open = CType::array(rt.alloc(), CType::Num(LayKind::S32), 0)?;
+    refuse(&rt, &table, open, Layout::Incomplete);
+    let row = CType::array(rt.alloc(), CType::Num(LayKind::S64), 0)?;
+    let rows = CType::array(rt.alloc(), row, 2)?;
+    refuse(&rt, &table, rows, Layout::Incomplete);
+    let most = CType::array(rt.alloc(), CType::Num(LayKind::S32), u64::MAX)?;
+    let several = CType::array(rt.alloc(), most, 0)?;
+    refuse(&rt, &table, several, Layout::Incomplete);
+    let member = CType::array(rt.alloc(), CType::Num(LayKind::S8), 0)?;
+    assert!(rt; !all_sized(&table, &[member]));
+    let behind = CType::array(rt.alloc(), CType::Num(LayKind::S32), 0)?;
+    check(
+        &rt,
+        &table,
+        CType::pointer(rt.alloc(), behind)?,
+        Ok(8),
+        Ok(8),
+    );
+    Ok(())
+}
+
 // A part without a size comes before a whole that is too large.
 #[test]
 fn arrays(rt: HostRuntime) -> Result<(), Fail> {

@@ -12,8 +12,8 @@ fn arrays(rt: HostRuntime) -> Result<(), Fail> {
     refuse(&rt, &table, above, Layout::TooLarge);
     let bytes = CType::array(rt.alloc(), CType::Num(LayKind::U8), 16_777_217)?;
     refuse(&rt, &table, bytes, Layout::TooLarge);
-    let none = CType::array(rt.alloc(), CType::Num(LayKind::S16), 0)?;
-    check(&rt, &table, none, Ok(0), Ok(2));
+    let one = CType::array(rt.alloc(), CType::Num(LayKind::S16), 1)?;
+    check(&rt, &table, one, Ok(2), Ok(2));
     Ok(())
 }
 
@@ -28,12 +28,6 @@ fn endless(rt: HostRuntime) -> Result<(), Fail> {
     let most = CType::array(rt.alloc(), CType::Num(LayKind::S8), 16_777_216)?;
     let all = CType::array(rt.alloc(), most, u64::MAX)?;
     refuse(&rt, &table, all, Layout::TooLarge);
-    let none = CType::array(rt.alloc(), CType::Num(LayKind::S64), 0)?;
-    let nothing = CType::array(rt.alloc(), none, u64::MAX)?;
-    check(&rt, &table, nothing, Ok(0), Ok(8));
-    let above = CType::array(rt.alloc(), CType::Num(LayKind::S32), u64::MAX)?;
-    let nowhere = CType::array(rt.alloc(), above, 0)?;
-    check(&rt, &table, nowhere, Ok(0), Ok(4));
     Ok(())
 }
 
@@ -87,7 +81,7 @@ fn structs(rt: HostRuntime) -> Result<(), Fail> {
     refuse(&rt, &table, CType::Struct(many), Layout::TooLarge);
     assert!(rt; all_sized(&table, &[CType::Struct(most), CType::Num(LayKind::Bool)]));
     assert!(rt; !all_sized(&table, &[CType::Num(LayKind::Bool), CType::Struct(above)]));
-    let none = CType::array(rt.alloc(), CType::Struct(above), 0)?;
-    check(&rt, &table, none, Ok(0), Ok(2));
+    let several = CType::array(rt.alloc(), CType::Struct(above), 2)?;
+    refuse(&rt, &table, several, Layout::TooLarge);
     Ok(())
 }

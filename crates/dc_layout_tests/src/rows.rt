@@ -32,7 +32,7 @@ fn structs(rt: HostRuntime) -> Result<(), Fail> {
         ),
         (&[Num(S8), Grid(S32, 2, 3), Num(S8)], &[32, 4, 0, 4, 28]),
         (&[Structs(6, 2), Struct(1), Num(Bool)], &[88, 8, 0, 64, 80]),
-        (&[Num(S8), Array(S32, 0), Num(S8)], &[8, 4, 0, 4, 4]),
+        (&[Num(S8), Array(S32, 1), Num(S8)], &[12, 4, 0, 4, 8]),
         (
             &[Array(S8, 16777210), Num(S32)],
             &[16777216, 4, 0, 16777212],

@@ -1,5 +1,5 @@
 -- Words on types (C11 6.2.5, 6.3.2.1, 6.7.3).
-use Rattle.std.specs.Prelude.{ℕ, Bool, true, false, ◌&&◌, ◌==◌, not, Option, Some, None, is_some, is_ok}
+use Rattle.std.specs.Prelude.{ℕ, Bool, true, false, ◌&&◌, ◌==◌, not, Option, Some, None, is_some, is_ok, if◌then◌else◌}
 use Rattle.dc_layout.specs.Types.{PlainType, Void, Num, Pointer, Array, Struct, Func, Const, PlainTypes, NoTypes, Types, Structs}
 use Rattle.dc_layout.specs.Layout.{extent_of, size_answer}
 use Rattle.dc_layout.specs.declared.kind.LayKind.{LayKind}
@@ -177,3 +177,8 @@ is_complete structs t = is_some (extent_of structs t)
 -- has a size within the limit
 abbrev pub is_sized : Structs → PlainType → Bool
 is_sized structs t = is_ok (size_answer structs t)
+
+-- a size within the limit; of an array without a length, which is written as one of 0 elements, its elements' size
+abbrev pub is_within_limit : Structs → PlainType → Bool
+is_within_limit structs (Array t n) = if n == 0 then is_sized structs t else is_sized structs (Array t n)
+is_within_limit structs t = is_sized structs t

@@ -1,9 +1,10 @@
--- Types that a program may have (C11 6.7.2 to 6.7.6): structs are there, lengths are above 0 and sizes within the limit.
+-- Types that a program may have (C11 6.7.2 to 6.7.6): structs are there, and arrays and their elements have sizes within
+-- the limit. An array without a length is a type too, but has no size.
 use Rattle.std.specs.Prelude.{Bool, true, false, ◌&&◌, length, nat_lt}
 use Rattle.dc_layout.specs.declared.kind.LayKind.{LayKind}
 use Rattle.dc_layout.specs.declared.kind.LayKind.TheVariants.{Ptr}
 use Rattle.dc_layout.specs.Types.{PlainType, Void, Num, Pointer, Array, Struct, Func, Const, PlainTypes, NoTypes, Types, Structs}
-use Rattle.dc_program.specs.Types.{is_sized}
+use Rattle.dc_program.specs.Types.{is_within_limit}
 
 -- the numbers of pointers are no type of C
 abbrev pub is_number_kind : LayKind → Bool
@@ -36,7 +37,7 @@ abbrev mutual
   is_type structs Void = true
   is_type structs (Num k) = is_number_kind k
   is_type structs (Pointer t) = is_type structs t
-  is_type structs (Array t n) = is_type structs t && nat_lt 0 n && is_sized structs (Array t n)
+  is_type structs (Array t n) = is_type structs t && is_within_limit structs (Array t n)
   is_type structs (Struct s) = nat_lt s (length structs)
   is_type structs (Func t ts) = is_type structs t && is_result t && are_parameters structs ts
   is_type structs (Const t) = is_type structs t && is_qualifiable t

@@ -1,4 +1,5 @@
-pub mod Complete
-pub mod Likeness
-pub mod MemberTypes
-pub mod PlainKinds
+pub mod Loops
+pub mod Arguments
+pub mod Derivations
+pub mod PlainLists
+pub mod SpecLists

@@ -1,3 +1,15 @@
 pub mod Judged
+pub mod Literals
+pub mod Known
+pub mod Spots
+pub mod TypeNames
+pub mod Operators
+pub mod Phrases
+pub mod Calls
+pub mod Typed
+pub mod Answers
+pub mod Lists
 pub mod Seen
+pub mod DerivedView
+pub mod View
 pub mod Plain

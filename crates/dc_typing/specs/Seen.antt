@@ -1,20 +1,16 @@
--- What is seen of parts of types.
-use Rattle.std.specs.Prelude.{Option, Result, Ok, Err, List, map}
-use Rattle.std.specs.Option.{option_map}
-use Rattle.dc_layout.specs.Types.{PlainType, PlainTypes, type_view, types}
+-- What is seen of lists and groups of expressions.
+use Rattle.std.specs.Prelude.{List, map}
+use Rattle.dc_layout.specs.Types.{PlainTypes, type_view, types}
 use Rattle.dc_layout.specs.declared.ctype.CType.{CType}
-use Rattle.dc_program.specs.Typing.{Judged}
-use Rattle.dc_program.specs.declared.rule.Rule.{Rule}
+use Rattle.dc_program.specs.declared.expression.Expr as code
+use Rattle.dc_program.specs.Expressions.{Expr, Exprs}
+use Rattle.dc_program.specs.View.{expr_view, exprs}
 
--- of an answer that takes no memory
-abbrev pub seen : Result CType Rule → Judged PlainType
-seen (Ok t) = Ok (type_view t)
-seen (Err rule) = Err rule
+abbrev pub exprs_view : List code.Expr → Exprs
+exprs_view all = exprs (map expr_view all)
 
--- of a type that may be there
-abbrev pub part_view : Option CType → Option PlainType
-part_view = option_map type_view
+abbrev pub pair_view : code.Expr × code.Expr → Expr × Expr
+pair_view p = (expr_view p.0, expr_view p.1)
 
--- of types, in their order
-abbrev pub types_view : List CType → PlainTypes
-types_view all = types (map type_view all)
+abbrev pub triple_view : code.Expr × code.Expr × code.Expr → Expr × Expr × Expr
+triple_view p = (expr_view p.0, expr_view p.1, expr_view p.2)

@@ -1,82 +1,48 @@
-// Types that a program may have (C11 6.7.2 to 6.7.6).
+// Expressions of forms whose parts have a type, or a broken rule.
 ghost use Rattle.std.specs.Prelude.{◌≡◌};
-ghost use Rattle.dc_layout.specs.Types.{type_view, structs_view};
-ghost use Rattle.dc_program.specs.WellFormed.{is_number_kind as is_of_numbers, is_qualifiable as may_be_qualified, is_result as may_be_given, is_parameter as may_be_taken, is_type as is_formed, are_parameters as may_all_be_taken};
-ghost use Rattle.dc_typing.specs.Seen.{types_view};
+ghost use Rattle.dc_layout.specs.Types.{PlainType, type_view};
+ghost use Rattle.dc_program.specs.Typing as typing;
+ghost use Rattle.dc_program.specs.View.{expr_view, form_view};
+ghost use Rattle.dc_rules.specs.Judged as rules;
+ghost use Rattle.dc_typing.specs.Answers.{Answers};
+ghost use Rattle.dc_typing.specs.Judged.{formed, located};
 
-use crate::types::is_sized;
-use dc_layout::LayKind;
-use dc_program::{CType, StructTable};
+use crate::refusal::Refusal;
+use dc_layout::CType;
+use dc_program::{Expr, Form};
+use dc_rules::Refused;
+use dc_text::Site;
+use std::alloc::Global;
 
-// Whether the kind is one of C's numbers, and not that of the numbers of pointers.
-fn is_number_kind(kind: LayKind) -> bool
-    ensures { result ≡ is_of_numbers kind }
+/// A type, or the rule that is broken by the phrase that ends at the site.
+pub fn located(ty: Result<CType, Refused>, site: u64) -> Result<CType, Refusal>
+    ensures { (judged : typing.Judged PlainType) → rules.Answers ty judged → Answers type_view (located site judged) result }
 {
-    !matches!(kind, LayKind::Ptr)
-}
-
-// Whether a qualifier may stand at the type: at no array, no function and no qualified type.
-fn is_qualifiable(t: &CType) -> bool
-    ensures { result ≡ may_be_qualified (type_view t.now) }
-{
-    !matches!(t, CType::Array(..) | CType::Func(..) | CType::Const(_))
-}
-
-// Whether a function may give the type: no array, no function and no struct.
-fn is_result(t: &CType) -> bool
-    ensures { result ≡ may_be_given (type_view t.now) }
-{
-    match t {
-        CType::Array(..) | CType::Func(..) | CType::Struct(_) => false,
-        CType::Const(of) => is_result(of.get()),
-        CType::Void | CType::Num(_) | CType::Pointer(_) => true,
+    match ty {
+        Ok(ty) => Ok(ty),
+        Err(Refused::Rule(rule)) => Err(Refusal::Rule {
+            rule,
+            site: Site(site),
+        }),
+        Err(Refused::Memory(error)) => Err(Refusal::Memory(error)),
     }
 }
 
-// Whether a function may take the type: one that may be given, and isn't void.
-fn is_parameter(t: &CType) -> bool
-    ensures { result ≡ may_be_taken (type_view t.now) }
+/// The expression of a form whose parts have the type, or the rule that is broken by the phrase that ends at the site.
+pub fn formed(
+    alloc: Global,
+    ty: Result<CType, Refused>,
+    form: Form,
+    site: u64,
+) -> Result<Expr, Refusal>
+    ensures { (judged : typing.Judged PlainType) → rules.Answers ty judged → Answers expr_view (formed site judged (form_view form)) result }
 {
-    match t {
-        CType::Void => false,
-        CType::Const(of) => is_parameter(of.get()),
-        _ => is_result(t),
+    match ty {
+        Ok(ty) => Ok(Expr::new(alloc, ty, form)?),
+        Err(Refused::Rule(rule)) => Err(Refusal::Rule {
+            rule,
+            site: Site(site),
+        }),
+        Err(Refused::Memory(error)) => Err(Refusal::Memory(error)),
     }
-}
-
-/// Whether a program may have the type (C11 6.7.2 to 6.7.6): its structs are in the table, its lengths are above 0, its arrays
-/// have at most 16,777,216 bytes, its functions give and take no arrays, functions and structs, and its qualifiers stand at no
-/// array, no function and no qualified type. The numbers of pointers are no type of C.
-#[cycle(formed)]
-pub fn is_type(structs: &StructTable, t: &CType) -> bool
-    ensures { result ≡ is_formed (structs_view structs.now) (type_view t.now) }
-{
-    match t {
-        CType::Void => true,
-        CType::Num(kind) => is_number_kind(*kind),
-        CType::Pointer(to) => is_type(structs, to.get()),
-        CType::Array(element, count) => {
-            is_type(structs, element.get()) && 0 < *count && is_sized(structs, t)
-        }
-        CType::Struct(number) => (*number as usize) < structs.count(),
-        CType::Func(gives, parameters) => {
-            is_type(structs, gives.get())
-                && is_result(gives.get())
-                && are_parameters(structs, parameters.as_slice())
-        }
-        CType::Const(of) => is_type(structs, of.get()) && is_qualifiable(of.get()),
-    }
-}
-
-// Whether a function may take types like these.
-#[cycle(formed)]
-fn are_parameters(structs: &StructTable, types: &[CType]) -> bool
-    ensures { result ≡ may_all_be_taken (structs_view structs.now) (types_view types.now) }
-{
-    for one in types {
-        if !is_type(structs, one) || !is_parameter(one) {
-            return false;
-        }
-    }
-    true
 }

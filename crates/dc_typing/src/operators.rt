@@ -1,59 +1,96 @@
-// The types that operators with two operands give (C11 6.5.5 to 6.5.12).
+// The operators that marks are.
 ghost use Rattle.std.specs.Prelude.{◌≡◌};
-ghost use Rattle.dc_layout.specs.Types.{type_view, structs_view};
-ghost use Rattle.dc_program.specs.Typing.{relation_type as relation_of, equality_type as equality_of, binary_type as binary_of};
-ghost use Rattle.dc_typing.specs.Judged.{Answers};
-ghost use Rattle.dc_typing.specs.Seen.{seen};
+ghost use Rattle.dc_typing.specs.Operators as spec;
 
-use crate::judged::{Refused, answered, keeps};
-use crate::numbers::{balanced_type, shift_type};
-use crate::pointers::{are_comparable, difference_type, sum_type};
-use crate::types::{is_number, is_pointer, number};
-use dc_program::{BinOp, CType, NumKind, Rule, StructTable};
-use std::alloc::Global;
+use dc_num::BinOp;
+use dc_program::{LogicalOp, StepOp, UnaryOp};
+use dc_syntax::Mark;
 
-// The type of a comparison by `<`, `<=`, `>` or `>=` (C11 6.5.8).
-fn relation_type(t: &CType, u: &CType) -> Result<CType, Rule>
-    ensures { seen result ≡ relation_of (type_view t.now) (type_view u.now) }
-{
-    let holds = is_number(t) && is_number(u) || are_comparable(t, u);
-    keeps(Rule::Incomparable, holds, number(NumKind::S32))
+/// What stands before one operand (C11 6.5.3).
+#[derive(Clone, Copy, Debug, PartialEq, Eq)]
+pub enum Prefix {
+    /// `&`
+    Address,
+    /// `*`
+    Target,
+    /// `+`, `-`, `~` or `!`
+    Operator(UnaryOp),
 }
 
-// The type of a comparison by `==` or `!=` (C11 6.5.9).
-fn equality_type(t: &CType, t_is_null: bool, u: &CType, u_is_null: bool) -> Result<CType, Rule>
-    ensures { seen result ≡ equality_of (type_view t.now) t_is_null (type_view u.now) u_is_null }
-{
-    let holds = is_number(t) && is_number(u)
-        || are_comparable(t, u)
-        || is_pointer(t) && u_is_null
-        || t_is_null && is_pointer(u);
-    keeps(Rule::Incomparable, holds, number(NumKind::S32))
+/// What stands between two operands (C11 6.5.5 to 6.5.14).
+#[derive(Clone, Copy, Debug, PartialEq, Eq)]
+pub enum Infix {
+    /// An operator that needs both.
+    Both(BinOp),
+    /// An operator whose first operand may decide.
+    First(LogicalOp),
 }
 
-/// The type that an operator gives with two operands (C11 6.5.5 to 6.5.12), of each of which it is said whether it is a null
-/// pointer constant, which counts beside `==` and `!=` alone.
-///
-/// It is refused by `IntegerNeeded`, `NoSum`, `Incomplete` or `Incomparable` exactly where the types break that rule, and by
-/// `Memory` where memory is refused.
-pub fn binary_type(
-    alloc: Global,
-    structs: &StructTable,
-    op: BinOp,
-    t: &CType,
-    t_is_null: bool,
-    u: &CType,
-    u_is_null: bool,
-) -> Result<CType, Refused>
-    ensures { Answers result (binary_of (structs_view structs.now) op (type_view t.now) t_is_null (type_view u.now) u_is_null) }
+/// `++` or `--`
+pub fn step_op(mark: Mark) -> StepOp
+    ensures { result ≡ spec.step_op mark }
 {
-    match op {
-        BinOp::Add => sum_type(alloc, structs, t, u),
-        BinOp::Sub => difference_type(alloc, structs, t, u),
-        BinOp::Mul | BinOp::Div | BinOp::Rem => answered(balanced_type(t, u)),
-        BinOp::And | BinOp::Or | BinOp::Xor => answered(balanced_type(t, u)),
-        BinOp::Shl | BinOp::Shr => answered(shift_type(t, u)),
-        BinOp::Lt | BinOp::Le | BinOp::Gt | BinOp::Ge => answered(relation_type(t, u)),
-        BinOp::Eq | BinOp::Ne => answered(equality_type(t, t_is_null, u, u_is_null)),
+    match mark {
+        Mark::Increment => StepOp::Increment,
+        _ => StepOp::Decrement,
+    }
+}
+
+/// The operator of an assignment; a plain `=` has none.
+pub fn assigning_op(mark: Mark) -> Option<BinOp>
+    ensures { result ≡ spec.assigning_op mark }
+{
+    match mark {
+        Mark::Equals => None,
+        Mark::StarEquals => Some(BinOp::Mul),
+        Mark::SlashEquals => Some(BinOp::Div),
+        Mark::PercentEquals => Some(BinOp::Rem),
+        Mark::PlusEquals => Some(BinOp::Add),
+        Mark::MinusEquals => Some(BinOp::Sub),
+        Mark::ShiftLeftEquals => Some(BinOp::Shl),
+        Mark::ShiftRightEquals => Some(BinOp::Shr),
+        Mark::AmpersandEquals => Some(BinOp::And),
+        Mark::CaretEquals => Some(BinOp::Xor),
+        _ => Some(BinOp::Or),
+    }
+}
+
+/// The operator before an operand.
+pub fn prefix_op(mark: Mark) -> Prefix
+    ensures { result ≡ spec.prefix_op mark }
+{
+    match mark {
+        Mark::Ampersand => Prefix::Address,
+        Mark::Star => Prefix::Target,
+        Mark::Plus => Prefix::Operator(UnaryOp::Plus),
+        Mark::Minus => Prefix::Operator(UnaryOp::Negate),
+        Mark::Tilde => Prefix::Operator(UnaryOp::Complement),
+        _ => Prefix::Operator(UnaryOp::Not),
+    }
+}
+
+/// The operator between two operands.
+pub fn infix_op(mark: Mark) -> Infix
+    ensures { result ≡ spec.infix_op mark }
+{
+    match mark {
+        Mark::Star => Infix::Both(BinOp::Mul),
+        Mark::Slash => Infix::Both(BinOp::Div),
+        Mark::Percent => Infix::Both(BinOp::Rem),
+        Mark::Plus => Infix::Both(BinOp::Add),
+        Mark::Minus => Infix::Both(BinOp::Sub),
+        Mark::ShiftLeft => Infix::Both(BinOp::Shl),
+        Mark::ShiftRight => Infix::Both(BinOp::Shr),
+        Mark::Less => Infix::Both(BinOp::Lt),
+        Mark::Greater => Infix::Both(BinOp::Gt),
+        Mark::LessEqual => Infix::Both(BinOp::Le),
+        Mark::GreaterEqual => Infix::Both(BinOp::Ge),
+        Mark::EqualEqual => Infix::Both(BinOp::Eq),
+        Mark::NotEqual => Infix::Both(BinOp::Ne),
+        Mark::Ampersand => Infix::Both(BinOp::And),
+        Mark::Caret => Infix::Both(BinOp::Xor),
+        Mark::Bar => Infix::Both(BinOp::Or),
+        Mark::AndAnd => Infix::First(LogicalOp::And),
+        _ => Infix::First(LogicalOp::Or),
     }
 }

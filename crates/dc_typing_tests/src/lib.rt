@@ -1,15 +1,13 @@
-//! Tests of the types of expressions and of integer constants. It has nothing else.
+//! Tests of typed expressions: sources with what they mean or the first rule that they break. It has nothing else.
 #![tactic(auto)]
 
 #[cfg(test)]
-mod constants;
+mod accepted;
 #[cfg(test)]
-mod made;
+mod judging;
 #[cfg(test)]
-mod operators;
-#[cfg(test)]
-mod parts;
+mod refused;
 #[cfg(test)]
 mod shown;
 #[cfg(test)]
-mod words;
+mod surroundings;

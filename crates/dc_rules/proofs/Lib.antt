@@ -1,0 +1,4 @@
+pub mod Complete
+pub mod Likeness
+pub mod MemberTypes
+pub mod PlainKinds
