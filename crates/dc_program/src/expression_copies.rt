@@ -1,5 +1,5 @@
 // Copies of expressions, each on memory of its own.
-ghost use Rattle.std.specs.Prelude.{◌≡◌, IfOk, IsTrue};
+ghost use Rattle.std.specs.Prelude.{◌≡◌, IfOk, IsOkAnd, IsTrue};
 ghost use Rattle.dc_program.specs.declared.expression.Form.{out-Form};
 ghost use Rattle.dc_program.specs.Groups.{is_leaf, is_call, is_unary, is_compound, is_predicate};
 
@@ -30,6 +30,27 @@ pub fn expressions(alloc: Global, all: &Items<Expr>) -> Result<Items<Expr>, Allo
         copy.push(one.duplicate(alloc)?)?;
     }
     Ok(copy)
+}
+
+// Both copies. Where there was no memory for one, nothing is left of the other.
+fn both(
+    a: Result<Expr, AllocError>,
+    b: Result<Expr, AllocError>,
+) -> Result<(Expr, Expr), AllocError>
+    ensures { IfOk result (λ copies. IsOkAnd a (λ x. x ≡ copies.0) × IsOkAnd b (λ x. x ≡ copies.1)) }
+{
+    Ok((a?, b?))
+}
+
+// All three copies. Where there was no memory for one, nothing is left of the others.
+fn three(
+    a: Result<Expr, AllocError>,
+    b: Result<Expr, AllocError>,
+    c: Result<Expr, AllocError>,
+) -> Result<(Expr, Expr, Expr), AllocError>
+    ensures { IfOk result (λ copies. IsOkAnd a (λ x. x ≡ copies.0) × IsOkAnd b (λ x. x ≡ copies.1) × IsOkAnd c (λ x. x ≡ copies.2)) }
+{
+    Ok((a?, b?, c?))
 }
 
 impl Form {
@@ -124,8 +145,7 @@ impl Form {
                 Ok(Form::Malloc(a, *location))
             }
             Form::Calloc(a, b, location) => {
-                let a = a.duplicate(alloc)?;
-                let b = b.duplicate(alloc)?;
+                let (a, b) = both(a.duplicate(alloc), b.duplicate(alloc))?;
                 Ok(Form::Calloc(a, b, *location))
             }
             Form::Free(a, location) => {
@@ -133,21 +153,15 @@ impl Form {
                 Ok(Form::Free(a, *location))
             }
             Form::Memset(a, b, c, location) => {
-                let a = a.duplicate(alloc)?;
-                let b = b.duplicate(alloc)?;
-                let c = c.duplicate(alloc)?;
+                let (a, b, c) = three(a.duplicate(alloc), b.duplicate(alloc), c.duplicate(alloc))?;
                 Ok(Form::Memset(a, b, c, *location))
             }
             Form::Memcpy(a, b, c, location) => {
-                let a = a.duplicate(alloc)?;
-                let b = b.duplicate(alloc)?;
-                let c = c.duplicate(alloc)?;
+                let (a, b, c) = three(a.duplicate(alloc), b.duplicate(alloc), c.duplicate(alloc))?;
                 Ok(Form::Memcpy(a, b, c, *location))
             }
             Form::Memmove(a, b, c, location) => {
-                let a = a.duplicate(alloc)?;
-                let b = b.duplicate(alloc)?;
-                let c = c.duplicate(alloc)?;
+                let (a, b, c) = three(a.duplicate(alloc), b.duplicate(alloc), c.duplicate(alloc))?;
                 Ok(Form::Memmove(a, b, c, *location))
             }
             Form::Assert(a, location) => {
@@ -217,40 +231,31 @@ impl Form {
     {
         match self {
             Form::Index(a, b) => {
-                let a = a.duplicate(alloc)?;
-                let b = b.duplicate(alloc)?;
+                let (a, b) = both(a.duplicate(alloc), b.duplicate(alloc))?;
                 Ok(Form::Index(a, b))
             }
             Form::Binary(operator, a, b) => {
-                let a = a.duplicate(alloc)?;
-                let b = b.duplicate(alloc)?;
+                let (a, b) = both(a.duplicate(alloc), b.duplicate(alloc))?;
                 Ok(Form::Binary(*operator, a, b))
             }
             Form::Logical(operator, a, b) => {
-                let a = a.duplicate(alloc)?;
-                let b = b.duplicate(alloc)?;
+                let (a, b) = both(a.duplicate(alloc), b.duplicate(alloc))?;
                 Ok(Form::Logical(*operator, a, b))
             }
             Form::Conditional(a, b, c) => {
-                let a = a.duplicate(alloc)?;
-                let b = b.duplicate(alloc)?;
-                let c = c.duplicate(alloc)?;
+                let (a, b, c) = three(a.duplicate(alloc), b.duplicate(alloc), c.duplicate(alloc))?;
                 Ok(Form::Conditional(a, b, c))
             }
             Form::Assign(a, b, location) => {
-                let a = a.duplicate(alloc)?;
-                let b = b.duplicate(alloc)?;
+                let (a, b) = both(a.duplicate(alloc), b.duplicate(alloc))?;
                 Ok(Form::Assign(a, b, *location))
             }
             Form::AssignBy(operator, a, b, location) => {
-                let a = a.duplicate(alloc)?;
-                let b = b.duplicate(alloc)?;
+                let (a, b) = both(a.duplicate(alloc), b.duplicate(alloc))?;
                 Ok(Form::AssignBy(*operator, a, b, *location))
             }
             Form::Quantify(operator, kind, a, b, c) => {
-                let a = a.duplicate(alloc)?;
-                let b = b.duplicate(alloc)?;
-                let c = c.duplicate(alloc)?;
+                let (a, b, c) = three(a.duplicate(alloc), b.duplicate(alloc), c.duplicate(alloc))?;
                 Ok(Form::Quantify(*operator, *kind, a, b, c))
             }
             _ => unreachable!(),
@@ -265,8 +270,7 @@ impl Form {
     {
         match self {
             Form::IsFresh(a, b) => {
-                let a = a.duplicate(alloc)?;
-                let b = b.duplicate(alloc)?;
+                let (a, b) = both(a.duplicate(alloc), b.duplicate(alloc))?;
                 Ok(Form::IsFresh(a, b))
             }
             Form::IsFreeable(a) => {
@@ -278,19 +282,15 @@ impl Form {
                 Ok(Form::WasFreed(a))
             }
             Form::PointerEquals(a, b) => {
-                let a = a.duplicate(alloc)?;
-                let b = b.duplicate(alloc)?;
+                let (a, b) = both(a.duplicate(alloc), b.duplicate(alloc))?;
                 Ok(Form::PointerEquals(a, b))
             }
             Form::PointerInRange(a, b, c) => {
-                let a = a.duplicate(alloc)?;
-                let b = b.duplicate(alloc)?;
-                let c = c.duplicate(alloc)?;
+                let (a, b, c) = three(a.duplicate(alloc), b.duplicate(alloc), c.duplicate(alloc))?;
                 Ok(Form::PointerInRange(a, b, c))
             }
             Form::IsAccessible(operator, a, b) => {
-                let a = a.duplicate(alloc)?;
-                let b = b.duplicate(alloc)?;
+                let (a, b) = both(a.duplicate(alloc), b.duplicate(alloc))?;
                 Ok(Form::IsAccessible(*operator, a, b))
             }
             Form::ObeysContract(a, value) => {

@@ -24,7 +24,7 @@ use sqlite_items::{Boxed, Items};
 use std::alloc::{AllocError, Global};
 
 /// The qualifiers behind a star, and the place behind them.
-#[derive(Debug, Drop)]
+#[derive(Drop)]
 pub struct ReadQualifiers {
     pub keywords: Items<Keyword>,
     pub at: usize,

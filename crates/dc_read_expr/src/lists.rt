@@ -13,7 +13,7 @@ use sqlite_items::{Boxed, Items};
 use std::alloc::{AllocError, Global};
 
 /// What a list with commas has as members, parameters aside.
-#[derive(Clone, Copy, Debug)]
+#[derive(Clone, Copy)]
 pub enum Item {
     Assigned,
     Condition,
@@ -22,7 +22,7 @@ pub enum Item {
 }
 
 /// What was read of a list, its height, and the place behind it.
-#[derive(Debug, Drop)]
+#[derive(Drop)]
 pub struct ReadItems {
     pub items: Items<Raw>,
     pub height: u64,

@@ -9,7 +9,7 @@ use sqlite_items::Boxed;
 use std::alloc::{AllocError, Global};
 
 /// What has a height of its own.
-#[derive(Clone, Copy, Debug)]
+#[derive(Clone, Copy)]
 pub enum Kind {
     /// An expression of at most this level.
     Upto(u64),
@@ -20,7 +20,7 @@ pub enum Kind {
 }
 
 /// What was read, its height, and the place behind it.
-#[derive(Debug, Drop)]
+#[derive(Drop)]
 pub struct Read {
     pub tree: Boxed<Raw>,
     pub height: u64,
@@ -28,7 +28,7 @@ pub struct Read {
 }
 
 /// What was read with one more operator behind it, or as it was, where none follows.
-#[derive(Debug, Drop)]
+#[derive(Drop)]
 pub enum Turn {
     More(Read),
     Done(Read),

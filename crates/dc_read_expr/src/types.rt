@@ -20,7 +20,7 @@ use sqlite_items::{Boxed, Items};
 use std::alloc::{AllocError, Global};
 
 /// What was read of specs, their height, the place behind them, and whether a type and braces are among them.
-#[derive(Debug, Drop)]
+#[derive(Drop)]
 pub struct ReadSpecs {
     pub specs: Items<Raw>,
     pub height: u64,

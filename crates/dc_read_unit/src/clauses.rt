@@ -22,7 +22,7 @@ use sqlite_items::{Boxed, Items};
 use std::alloc::{AllocError, Global};
 
 /// A clause of one condition.
-#[derive(Clone, Copy, Debug)]
+#[derive(Clone, Copy)]
 pub enum ConditionClause {
     Requires,
     Ensures,
@@ -30,7 +30,7 @@ pub enum ConditionClause {
 }
 
 /// A clause of groups.
-#[derive(Clone, Copy, Debug)]
+#[derive(Clone, Copy)]
 pub enum TargetClause {
     Assigns,
     Frees,

@@ -24,7 +24,7 @@ use sqlite_items::{Boxed, Items};
 use std::alloc::{AllocError, Global};
 
 /// The clauses of a function without a block, the height of the whole with them, and the place behind them.
-#[derive(Debug, Drop)]
+#[derive(Drop)]
 struct ReadClauses {
     first: Boxed<Part>,
     more: Items<Part>,

@@ -8,7 +8,7 @@ use sqlite_items::{Boxed, Items};
 use std::alloc::{AllocError, Global};
 
 /// What was read, its height, and the place behind it.
-#[derive(Debug, Drop)]
+#[derive(Drop)]
 pub struct ReadPart {
     pub part: Boxed<Part>,
     pub height: u64,
@@ -16,7 +16,7 @@ pub struct ReadPart {
 }
 
 /// What was read of a list, its height, and the place behind it.
-#[derive(Debug, Drop)]
+#[derive(Drop)]
 pub struct ReadParts {
     pub parts: Items<Part>,
     pub height: u64,

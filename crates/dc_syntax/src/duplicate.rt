@@ -1,5 +1,5 @@
 // Copies of the trees, each on memory of its own.
-ghost use Rattle.std.specs.Prelude.{◌≡◌, IfOk, IsTrue};
+ghost use Rattle.std.specs.Prelude.{◌≡◌, IfOk, IsOkAnd, IsTrue};
 ghost use Rattle.dc_syntax.specs.declared.raw.Raw.{out-Raw};
 ghost use Rattle.dc_syntax.specs.declared.unit.Part.{out-Part};
 ghost use Rattle.dc_syntax.specs.Kinds.{is_leaf, is_unary, is_compound, is_derived, is_simple, is_clause, is_control};
@@ -19,6 +19,16 @@ impl Tag {
             Tag::Tagged(name, place) => Ok(Tag::Tagged(name.duplicate(alloc)?, *place)),
         }
     }
+}
+
+// Both copies. Where there was no memory for one, nothing is left of the other.
+fn both<A: Drop, B: Drop>(
+    a: Result<A, AllocError>,
+    b: Result<B, AllocError>,
+) -> Result<(A, B), AllocError>
+    ensures { IfOk result (λ copies. IsOkAnd a (λ x. x ≡ copies.0) × IsOkAnd b (λ x. x ≡ copies.1)) }
+{
+    Ok((a?, b?))
 }
 
 impl Raw {
@@ -59,35 +69,33 @@ impl Raw {
             | Raw::Function(..)
             | Raw::Pointer(..) => self.duplicate_derived(alloc),
             Raw::TypeName(specs, declarator, place) => {
-                let specs = duplicates(alloc, specs.as_slice())?;
-                Ok(Raw::TypeName(specs, boxed(alloc, declarator)?, *place))
+                let specs = duplicates(alloc, specs.as_slice());
+                let (specs, declarator) = both(specs, boxed(alloc, declarator))?;
+                Ok(Raw::TypeName(specs, declarator, *place))
             }
             Raw::StructBody(tag, members, place) => {
-                let tag = tag.duplicate(alloc)?;
-                Ok(Raw::StructBody(tag, duplicates(alloc, members.as_slice())?, *place))
+                let members = duplicates(alloc, members.as_slice());
+                let (tag, members) = both(tag.duplicate(alloc), members)?;
+                Ok(Raw::StructBody(tag, members, *place))
             }
             Raw::EnumBody(tag, first, more, place) => {
-                let tag = tag.duplicate(alloc)?;
-                let first = boxed(alloc, first)?;
-                Ok(Raw::EnumBody(tag, first, duplicates(alloc, more.as_slice())?, *place))
+                let first = both(tag.duplicate(alloc), boxed(alloc, first));
+                let ((tag, first), more) = both(first, duplicates(alloc, more.as_slice()))?;
+                Ok(Raw::EnumBody(tag, first, more, *place))
             }
             Raw::MemberDeclaration(specs, first, more, place) => {
-                let specs = duplicates(alloc, specs.as_slice())?;
-                let first = boxed(alloc, first)?;
-                Ok(Raw::MemberDeclaration(
-                    specs,
-                    first,
-                    duplicates(alloc, more.as_slice())?,
-                    *place,
-                ))
+                let first = both(duplicates(alloc, specs.as_slice()), boxed(alloc, first));
+                let ((specs, first), more) = both(first, duplicates(alloc, more.as_slice()))?;
+                Ok(Raw::MemberDeclaration(specs, first, more, *place))
             }
             Raw::EnumeratorValue(name, value, place) => {
-                let name = name.duplicate(alloc)?;
-                Ok(Raw::EnumeratorValue(name, boxed(alloc, value)?, *place))
+                let (name, value) = both(name.duplicate(alloc), boxed(alloc, value))?;
+                Ok(Raw::EnumeratorValue(name, value, *place))
             }
             Raw::Parameter(specs, declarator, place) => {
-                let specs = duplicates(alloc, specs.as_slice())?;
-                Ok(Raw::Parameter(specs, boxed(alloc, declarator)?, *place))
+                let specs = duplicates(alloc, specs.as_slice());
+                let (specs, declarator) = both(specs, boxed(alloc, declarator))?;
+                Ok(Raw::Parameter(specs, declarator, *place))
             }
         }
     }
@@ -120,12 +128,12 @@ impl Raw {
         match self {
             Raw::Paren(a, place) => Ok(Raw::Paren(boxed(alloc, a)?, *place)),
             Raw::Member(a, name, place) => {
-                let a = boxed(alloc, a)?;
-                Ok(Raw::Member(a, name.duplicate(alloc)?, *place))
+                let (a, name) = both(boxed(alloc, a), name.duplicate(alloc))?;
+                Ok(Raw::Member(a, name, *place))
             }
             Raw::Through(a, name, place) => {
-                let a = boxed(alloc, a)?;
-                Ok(Raw::Through(a, name.duplicate(alloc)?, *place))
+                let (a, name) = both(boxed(alloc, a), name.duplicate(alloc))?;
+                Ok(Raw::Through(a, name, *place))
             }
             Raw::After(mark, a, place) => Ok(Raw::After(*mark, boxed(alloc, a)?, *place)),
             Raw::Before(mark, a, place) => Ok(Raw::Before(*mark, boxed(alloc, a)?, *place)),
@@ -144,38 +152,42 @@ impl Raw {
     {
         match self {
             Raw::Quantifier(keyword, specs, declarator, body, place) => {
-                let specs = duplicates(alloc, specs.as_slice())?;
-                let declarator = boxed(alloc, declarator)?;
-                Ok(Raw::Quantifier(*keyword, specs, declarator, boxed(alloc, body)?, *place))
+                let head = both(
+                    duplicates(alloc, specs.as_slice()),
+                    boxed(alloc, declarator),
+                );
+                let ((specs, declarator), body) = both(head, boxed(alloc, body))?;
+                Ok(Raw::Quantifier(*keyword, specs, declarator, body, *place))
             }
             Raw::Index(a, at, place) => {
-                let a = boxed(alloc, a)?;
-                Ok(Raw::Index(a, boxed(alloc, at)?, *place))
+                let (a, at) = both(boxed(alloc, a), boxed(alloc, at))?;
+                Ok(Raw::Index(a, at, *place))
             }
             Raw::Call(function, arguments, place) => {
-                let function = boxed(alloc, function)?;
-                Ok(Raw::Call(function, duplicates(alloc, arguments.as_slice())?, *place))
+                let arguments = duplicates(alloc, arguments.as_slice());
+                let (function, arguments) = both(boxed(alloc, function), arguments)?;
+                Ok(Raw::Call(function, arguments, *place))
             }
             Raw::Cast(type_name, a, place) => {
-                let type_name = boxed(alloc, type_name)?;
-                Ok(Raw::Cast(type_name, boxed(alloc, a)?, *place))
+                let (type_name, a) = both(boxed(alloc, type_name), boxed(alloc, a))?;
+                Ok(Raw::Cast(type_name, a, *place))
             }
             Raw::Binary(mark, a, b, place) => {
-                let a = boxed(alloc, a)?;
-                Ok(Raw::Binary(*mark, a, boxed(alloc, b)?, *place))
+                let (a, b) = both(boxed(alloc, a), boxed(alloc, b))?;
+                Ok(Raw::Binary(*mark, a, b, *place))
             }
             Raw::Implies(a, b, place) => {
-                let a = boxed(alloc, a)?;
-                Ok(Raw::Implies(a, boxed(alloc, b)?, *place))
+                let (a, b) = both(boxed(alloc, a), boxed(alloc, b))?;
+                Ok(Raw::Implies(a, b, *place))
             }
             Raw::Conditional(test, a, b, place) => {
-                let test = boxed(alloc, test)?;
-                let a = boxed(alloc, a)?;
-                Ok(Raw::Conditional(test, a, boxed(alloc, b)?, *place))
+                let head = both(boxed(alloc, test), boxed(alloc, a));
+                let ((test, a), b) = both(head, boxed(alloc, b))?;
+                Ok(Raw::Conditional(test, a, b, *place))
             }
             Raw::Assign(mark, a, b, place) => {
-                let a = boxed(alloc, a)?;
-                Ok(Raw::Assign(*mark, a, boxed(alloc, b)?, *place))
+                let (a, b) = both(boxed(alloc, a), boxed(alloc, b))?;
+                Ok(Raw::Assign(*mark, a, b, *place))
             }
             _ => unreachable!(),
         }
@@ -191,16 +203,18 @@ impl Raw {
             Raw::Wrapped(inner, place) => Ok(Raw::Wrapped(boxed(alloc, inner)?, *place)),
             Raw::Unsized(inner, place) => Ok(Raw::Unsized(boxed(alloc, inner)?, *place)),
             Raw::Sized(inner, length, place) => {
-                let inner = boxed(alloc, inner)?;
-                Ok(Raw::Sized(inner, boxed(alloc, length)?, *place))
+                let (inner, length) = both(boxed(alloc, inner), boxed(alloc, length))?;
+                Ok(Raw::Sized(inner, length, *place))
             }
             Raw::Function(inner, parameters, place) => {
-                let inner = boxed(alloc, inner)?;
-                Ok(Raw::Function(inner, duplicates(alloc, parameters.as_slice())?, *place))
+                let parameters = duplicates(alloc, parameters.as_slice());
+                let (inner, parameters) = both(boxed(alloc, inner), parameters)?;
+                Ok(Raw::Function(inner, parameters, *place))
             }
             Raw::Pointer(qualifiers, inner, place) => {
-                let qualifiers = Items::from_slice(alloc, qualifiers.as_slice())?;
-                Ok(Raw::Pointer(qualifiers, boxed(alloc, inner)?, *place))
+                let qualifiers = Items::from_slice(alloc, qualifiers.as_slice());
+                let (qualifiers, inner) = both(qualifiers, boxed(alloc, inner))?;
+                Ok(Raw::Pointer(qualifiers, inner, *place))
             }
             _ => unreachable!(),
         }
@@ -259,12 +273,14 @@ impl Part {
             | Part::Case(..)
             | Part::Default(..) => self.duplicate_control(alloc),
             Part::Braces(first, more, place) => {
-                let first = boxed_part(alloc, first)?;
-                Ok(Part::Braces(first, duplicate_parts(alloc, more.as_slice())?, *place))
+                let more = duplicate_parts(alloc, more.as_slice());
+                let (first, more) = both(boxed_part(alloc, first), more)?;
+                Ok(Part::Braces(first, more, *place))
             }
             Part::Initialized(declarator, initializer, place) => {
-                let declarator = boxed(alloc, declarator)?;
-                Ok(Part::Initialized(declarator, boxed_part(alloc, initializer)?, *place))
+                let initializer = boxed_part(alloc, initializer);
+                let (declarator, initializer) = both(boxed(alloc, declarator), initializer)?;
+                Ok(Part::Initialized(declarator, initializer, *place))
             }
             Part::Assigns(groups, place) => {
                 Ok(Part::Assigns(duplicate_parts(alloc, groups.as_slice())?, *place))
@@ -276,33 +292,37 @@ impl Part {
                 Ok(Part::Block(duplicate_parts(alloc, items.as_slice())?, *place))
             }
             Part::FirstDeclaration(specs, first, more, place) => {
-                let specs = duplicates(alloc, specs.as_slice())?;
-                let first = boxed_part(alloc, first)?;
-                let more = duplicate_parts(alloc, more.as_slice())?;
+                let first = both(
+                    duplicates(alloc, specs.as_slice()),
+                    boxed_part(alloc, first),
+                );
+                let more = duplicate_parts(alloc, more.as_slice());
+                let ((specs, first), more) = both(first, more)?;
                 Ok(Part::FirstDeclaration(specs, first, more, *place))
             }
             Part::Declaration(specs, declarators, place) => {
-                let specs = duplicates(alloc, specs.as_slice())?;
-                let declarators = duplicate_parts(alloc, declarators.as_slice())?;
+                let declarators = duplicate_parts(alloc, declarators.as_slice());
+                let (specs, declarators) = both(duplicates(alloc, specs.as_slice()), declarators)?;
                 Ok(Part::Declaration(specs, declarators, *place))
             }
             Part::Definition(specs, declarator, clauses, block, place) => {
-                let specs = duplicates(alloc, specs.as_slice())?;
-                let declarator = boxed(alloc, declarator)?;
-                let clauses = duplicate_parts(alloc, clauses.as_slice())?;
-                Ok(Part::Definition(
-                    specs,
-                    declarator,
-                    clauses,
-                    boxed_part(alloc, block)?,
-                    *place,
-                ))
+                let head = both(
+                    duplicates(alloc, specs.as_slice()),
+                    boxed(alloc, declarator),
+                );
+                let clauses = duplicate_parts(alloc, clauses.as_slice());
+                let body = both(clauses, boxed_part(alloc, block));
+                let ((specs, declarator), (clauses, block)) = both(head, body)?;
+                Ok(Part::Definition(specs, declarator, clauses, block, *place))
             }
             Part::Prototype(specs, declarator, first, more, place) => {
-                let specs = duplicates(alloc, specs.as_slice())?;
-                let declarator = boxed(alloc, declarator)?;
-                let first = boxed_part(alloc, first)?;
-                let more = duplicate_parts(alloc, more.as_slice())?;
+                let head = both(
+                    duplicates(alloc, specs.as_slice()),
+                    boxed(alloc, declarator),
+                );
+                let more = duplicate_parts(alloc, more.as_slice());
+                let clauses = both(boxed_part(alloc, first), more);
+                let ((specs, declarator), (first, more)) = both(head, clauses)?;
                 Ok(Part::Prototype(specs, declarator, first, more, *place))
             }
         }
@@ -341,17 +361,19 @@ impl Part {
                 *place,
             )),
             Part::Decreases(first, more, place) => {
-                let first = boxed(alloc, first)?;
-                Ok(Part::Decreases(first, duplicates(alloc, more.as_slice())?, *place))
+                let more = duplicates(alloc, more.as_slice());
+                let (first, more) = both(boxed(alloc, first), more)?;
+                Ok(Part::Decreases(first, more, *place))
             }
             Part::Group(first, more, place) => {
-                let first = boxed(alloc, first)?;
-                Ok(Part::Group(first, duplicates(alloc, more.as_slice())?, *place))
+                let more = duplicates(alloc, more.as_slice());
+                let (first, more) = both(boxed(alloc, first), more)?;
+                Ok(Part::Group(first, more, *place))
             }
             Part::GroupIf(test, first, more, place) => {
-                let test = boxed(alloc, test)?;
-                let first = boxed(alloc, first)?;
-                Ok(Part::GroupIf(test, first, duplicates(alloc, more.as_slice())?, *place))
+                let first = both(boxed(alloc, test), boxed(alloc, first));
+                let ((test, first), more) = both(first, duplicates(alloc, more.as_slice()))?;
+                Ok(Part::GroupIf(test, first, more, *place))
             }
             _ => unreachable!(),
         }
@@ -365,43 +387,41 @@ impl Part {
     {
         match self {
             Part::If(test, then, place) => {
-                let test = boxed(alloc, test)?;
-                Ok(Part::If(test, boxed_part(alloc, then)?, *place))
+                let (test, then) = both(boxed(alloc, test), boxed_part(alloc, then))?;
+                Ok(Part::If(test, then, *place))
             }
             Part::IfElse(test, then, otherwise, place) => {
-                let test = boxed(alloc, test)?;
-                let then = boxed_part(alloc, then)?;
-                Ok(Part::IfElse(test, then, boxed_part(alloc, otherwise)?, *place))
+                let head = both(boxed(alloc, test), boxed_part(alloc, then));
+                let ((test, then), otherwise) = both(head, boxed_part(alloc, otherwise))?;
+                Ok(Part::IfElse(test, then, otherwise, *place))
             }
             Part::While(test, clauses, body, place) => {
-                let test = boxed(alloc, test)?;
-                let clauses = duplicate_parts(alloc, clauses.as_slice())?;
-                Ok(Part::While(test, clauses, boxed_part(alloc, body)?, *place))
+                let clauses = duplicate_parts(alloc, clauses.as_slice());
+                let head = both(boxed(alloc, test), clauses);
+                let ((test, clauses), body) = both(head, boxed_part(alloc, body))?;
+                Ok(Part::While(test, clauses, body, *place))
             }
             Part::Do(body, test, clauses, place) => {
-                let body = boxed_part(alloc, body)?;
-                let test = boxed(alloc, test)?;
-                Ok(Part::Do(
-                    body,
-                    test,
-                    duplicate_parts(alloc, clauses.as_slice())?,
-                    *place,
-                ))
+                let head = both(boxed_part(alloc, body), boxed(alloc, test));
+                let clauses = duplicate_parts(alloc, clauses.as_slice());
+                let ((body, test), clauses) = both(head, clauses)?;
+                Ok(Part::Do(body, test, clauses, *place))
             }
             Part::For(first, test, step, clauses, body, place) => {
-                let first = boxed_part(alloc, first)?;
-                let test = boxed_part(alloc, test)?;
-                let step = boxed_part(alloc, step)?;
-                let clauses = duplicate_parts(alloc, clauses.as_slice())?;
-                Ok(Part::For(first, test, step, clauses, boxed_part(alloc, body)?, *place))
+                let head = both(boxed_part(alloc, first), boxed_part(alloc, test));
+                let head = both(head, boxed_part(alloc, step));
+                let clauses = duplicate_parts(alloc, clauses.as_slice());
+                let tail = both(clauses, boxed_part(alloc, body));
+                let (((first, test), step), (clauses, body)) = both(head, tail)?;
+                Ok(Part::For(first, test, step, clauses, body, *place))
             }
             Part::Switch(value, body, place) => {
-                let value = boxed(alloc, value)?;
-                Ok(Part::Switch(value, boxed_part(alloc, body)?, *place))
+                let (value, body) = both(boxed(alloc, value), boxed_part(alloc, body))?;
+                Ok(Part::Switch(value, body, *place))
             }
             Part::Case(value, body, place) => {
-                let value = boxed(alloc, value)?;
-                Ok(Part::Case(value, boxed_part(alloc, body)?, *place))
+                let (value, body) = both(boxed(alloc, value), boxed_part(alloc, body))?;
+                Ok(Part::Case(value, body, *place))
             }
             Part::Default(body, place) => Ok(Part::Default(boxed_part(alloc, body)?, *place)),
             _ => unreachable!(),

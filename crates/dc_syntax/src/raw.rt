@@ -6,14 +6,14 @@ use dc_text::Name;
 use sqlite_items::{Boxed, Items};
 
 /// The name behind `struct` or `enum`, if there is one.
-#[derive(Debug, Drop)]
+#[derive(Drop)]
 pub enum Tag {
     NoTag,
     Tagged(Name, Place),
 }
 
 /// What was read: a variant for each alternative of the grammar, with its parts and its place. Specs have at least one spec.
-#[derive(Debug, Drop)]
+#[derive(Drop)]
 pub enum Raw {
     /// A name.
     Name(Name, Place),

@@ -4,7 +4,7 @@ use crate::raw::Raw;
 use sqlite_items::{Boxed, Items};
 
 /// What was read of a unit: a variant for each alternative of the grammar, with its parts and its place.
-#[derive(Debug, Drop)]
+#[derive(Drop)]
 pub enum Part {
     /// An initializer that is an expression (C11 6.7.9).
     Single(Boxed<Raw>),
@@ -75,7 +75,7 @@ pub enum Part {
 }
 
 /// A unit: its declarations and definitions in order (C11 6.9).
-#[derive(Debug, Drop)]
+#[derive(Drop)]
 pub struct Unit {
     pub externals: Items<Part>,
 }
