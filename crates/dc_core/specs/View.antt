@@ -79,7 +79,11 @@ term_step (Term-F.Constant kind z) = plain_term.Constant kind z
 term_step (Term-F.Register r) = plain_term.Register r
 term_step (Term-F.Object n) = plain_term.Object n
 term_step (Term-F.Load kind a) = plain_term.Load kind a
+term_step (Term-F.Convert to from e) = plain_term.Convert to from e
+term_step (Term-F.Unary op kind e) = plain_term.Unary op kind e
 term_step (Term-F.Binary op kind a b) = plain_term.Binary op kind a b
+term_step (Term-F.Lazy op a b) = plain_term.Lazy op a b
+term_step (Term-F.Choice a b c) = plain_term.Choice a b c
 
 abbrev pub term_view : Term → plain_term.Term
 term_view = fold-Term plain_term.Term term_step

@@ -2,10 +2,12 @@
 #![tactic(auto)]
 
 pub mod laws;
+mod operators;
 mod parts;
 mod term;
 
-pub use dc_num::{BinOp, NumKind};
+pub use dc_num::{BinOp, NumKind, UnOp};
 pub use dc_text::Name;
+pub use operators::LazyOp;
 pub use parts::{assigned, body, ensured, function, gives_int, parameters, params, required};
 pub use term::Term;

@@ -6,11 +6,13 @@ use Rattle.dc_num.specs.declared.operators.BinOp.{BinOp}
 use Rattle.dc_num.specs.declared.operators.BinOp.TheVariants.{Add, Sub, Mul, Div, Rem, Shl, Shr, And, Or, Xor, Lt, Le, Gt, Ge, Eq, Ne}
 use Rattle.dc_num.specs.declared.kind.NumKind.{NumKind}
 use Rattle.dc_num.specs.declared.kind.NumKind.TheVariants.{Bool as Truth, S8, U8, S16, U16, S32, U32, S64, U64, Ptr}
-use Rattle.dc_core.specs.Term.{Term, Constant, Register, Object, Load, Binary}
+use Rattle.dc_num.specs.declared.operators.UnOp.TheVariants.{Neg, Not}
+use Rattle.dc_core.specs.declared.operators.LazyOp.TheVariants.{Both, Either}
+use Rattle.dc_core.specs.Term.{Term, Constant, Register, Object, Load, Convert, Unary, Binary, Lazy, Choice}
 use Rattle.dc_text.specs.Words.{same}
-use Rattle.dc_goto.specs.Text.{kind_word, operator_word, number_word, spaced, term_word}
+use Rattle.dc_goto.specs.Text.{kind_word, operator_word, unary_word, lazy_word, number_word, spaced, parenthesised, term_word}
 use Rattle.dc_goto.specs.Lines.{IsNumber, IsConstant, HasNumbers, height, height_limit, IsTerm}
-use Rattle.dc_goto.specs.Reading.{Reading, got, behind_byte, front_word, behind_word, read_word, read_one, read_two, constant_of, kind_of, operator_of, read_number, read_kind, read_constant, read_leaf, read_operated, read_opened, closed, read_parenthesised, read_term, read_low}
+use Rattle.dc_goto.specs.Reading.{Reading, got, behind_byte, front_word, behind_word, read_word, read_one, read_two, read_three, constant_of, kind_of, operator_of, read_number, read_kind, read_constant, read_leaf, read_operated, read_opened, closed, read_parenthesised, read_term, read_low}
 use Rattle.dc_goto.proofs.Pieces.{then_parts, got_parts, behind_parts, by_word, Ends, word_whole, Reads, word_reads, one_complete, one_sound, two_complete, two_sound, three_complete, three_sound}
 use Rattle.dc_goto.proofs.Meanings.{number_means, constant_means, IsAny, kind_means, operator_sound}
 
@@ -33,15 +35,25 @@ inner (Constant kind z) = kind_word kind ++ spaced (number_word z ∷ [])
 inner (Register r) = codes "reg" ++ spaced (decimal r ∷ [])
 inner (Object n) = codes "obj" ++ spaced (decimal n ∷ [])
 inner (Load kind a) = codes "load" ++ spaced (kind_word kind ∷ term_word a ∷ [])
+inner (Convert to from a) = codes "conv" ++ spaced (kind_word to ∷ kind_word from ∷ term_word a ∷ [])
+inner (Unary op kind a) = unary_word op ++ spaced (kind_word kind ∷ term_word a ∷ [])
 inner (Binary op kind a b) = operator_word op ++ spaced (kind_word kind ∷ term_word a ∷ term_word b ∷ [])
+inner (Lazy op a b) = lazy_word op ++ spaced (term_word a ∷ term_word b ∷ [])
+inner (Choice a b c) = codes "if" ++ spaced (term_word a ∷ term_word b ∷ term_word c ∷ [])
+
+parenthesised_inner : (word : List ℕ) (words : List (List ℕ)) → parenthesised word words ≡ 40 ∷ ((word ++ spaced words) ++ 41 ∷ [])
+parenthesised_inner word words = ap (λ l. 40 ∷ l) (sym (append_assoc word (spaced words) (41 ∷ [])))
 
 word_inner : (t : Term) → term_word t ≡ 40 ∷ (inner t ++ 41 ∷ [])
-word_inner (Constant kind z) = ap (λ l. 40 ∷ l) (sym (append_assoc (kind_word kind) (spaced (number_word z ∷ [])) (41 ∷ [])))
+word_inner (Constant kind z) = parenthesised_inner (kind_word kind) (number_word z ∷ [])
 word_inner (Register r) = refl
 word_inner (Object n) = refl
 word_inner (Load kind a) = refl
-word_inner (Binary op kind a b) =
-    ap (λ l. 40 ∷ l) (sym (append_assoc (operator_word op) (spaced (kind_word kind ∷ term_word a ∷ term_word b ∷ [])) (41 ∷ [])))
+word_inner (Convert to from a) = refl
+word_inner (Unary op kind a) = parenthesised_inner (unary_word op) (kind_word kind ∷ term_word a ∷ [])
+word_inner (Binary op kind a b) = parenthesised_inner (operator_word op) (kind_word kind ∷ term_word a ∷ term_word b ∷ [])
+word_inner (Lazy op a b) = parenthesised_inner (lazy_word op) (term_word a ∷ term_word b ∷ [])
+word_inner (Choice a b c) = refl
 
 word_before : (t : Term) (rest : List ℕ) → term_word t ++ rest ≡ 40 ∷ (inner t ++ (41 ∷ rest))
 word_before t rest = ap (λ l. l ++ rest) (word_inner t) ∙ ap (λ l. 40 ∷ l) (append_assoc (inner t) (41 ∷ []) rest)
@@ -59,6 +71,24 @@ lower_left m n k p = omega arith
 
 lower_right : (m n k : ℕ) → suc (max m n) ≤ suc k → n ≤ k
 lower_right m n k p = omega arith
+
+higher_one : (m n : ℕ) → m ≤ n → suc m ≤ suc n
+higher_one m n h = omega arith
+
+lower_one : (m n : ℕ) → suc m ≤ suc n → m ≤ n
+lower_one m n h = omega arith
+
+higher_three : (l m n k : ℕ) → l ≤ k → m ≤ k → n ≤ k → suc (max l (max m n)) ≤ suc k
+higher_three l m n k p q r = omega arith
+
+lower_first : (l m n k : ℕ) → suc (max l (max m n)) ≤ suc k → l ≤ k
+lower_first l m n k p = omega arith
+
+lower_second : (l m n k : ℕ) → suc (max l (max m n)) ≤ suc k → m ≤ k
+lower_second l m n k p = omega arith
+
+lower_third : (l m n k : ℕ) → suc (max l (max m n)) ≤ suc k → n ≤ k
+lower_third l m n k p = omega arith
 
 -- what is read behind a first word
 abbrev Opened : ℕ → List ℕ → List ℕ → List ℕ → Term → Type 0
@@ -89,13 +119,21 @@ operated_sound n again r (Some op) word bytes rest t w h =
 
 opened_sound : (n : ℕ) (again : List ℕ → Reading Term) → Reads again term_word (IsWithin n) → (word bytes rest : List ℕ) (t : Term) → read_opened again word bytes ≡ got t rest → Opened n word rest bytes t
 opened_sound n again r word bytes rest t h =
-    by_word word (codes "load") (read_two read_kind again Load bytes) (read_operated again (operator_of word) word bytes) (got t rest) (Opened n word rest bytes t) h
-    (λ w h. two_sound kind_reads r Load bytes rest t h (Opened n word rest) (λ kind a ik ia.
-    (ap (λ w. w ++ (spaced (kind_word kind ∷ term_word a ∷ []) ++ rest)) w, (ia.0, higher_load (height a) n ia.1))))
-    (λ h. operated_sound n again r (operator_of word) word bytes rest t (operator_sound word) h)
-  where
-    higher_load : (m n : ℕ) → m ≤ n → suc m ≤ suc n
-    higher_load m n h = omega arith
+    by_word word (codes "load") _ _ (got t rest) (Opened n word rest bytes t) h
+    (λ w h. two_sound kind_reads r Load bytes rest t h (Opened n word rest) (λ kind a ik ia. (ap (λ w. w ++ (spaced (kind_word kind ∷ term_word a ∷ []) ++ rest)) w, (ia.0, higher_one (height a) n ia.1))))
+    (λ h. by_word word (codes "conv") _ _ (got t rest) (Opened n word rest bytes t) h
+    (λ w h. three_sound kind_reads kind_reads r Convert bytes rest t h (Opened n word rest) (λ to from a it if_ ia. (ap (λ w. w ++ (spaced (kind_word to ∷ kind_word from ∷ term_word a ∷ []) ++ rest)) w, (ia.0, higher_one (height a) n ia.1))))
+    (λ h. by_word word (codes "neg") _ _ (got t rest) (Opened n word rest bytes t) h
+    (λ w h. two_sound kind_reads r (Unary Neg) bytes rest t h (Opened n word rest) (λ kind a ik ia. (ap (λ w. w ++ (spaced (kind_word kind ∷ term_word a ∷ []) ++ rest)) w, (ia.0, higher_one (height a) n ia.1))))
+    (λ h. by_word word (codes "not") _ _ (got t rest) (Opened n word rest bytes t) h
+    (λ w h. two_sound kind_reads r (Unary Not) bytes rest t h (Opened n word rest) (λ kind a ik ia. (ap (λ w. w ++ (spaced (kind_word kind ∷ term_word a ∷ []) ++ rest)) w, (ia.0, higher_one (height a) n ia.1))))
+    (λ h. by_word word (codes "and2") _ _ (got t rest) (Opened n word rest bytes t) h
+    (λ w h. two_sound r r (Lazy Both) bytes rest t h (Opened n word rest) (λ a b ia ib. (ap (λ w. w ++ (spaced (term_word a ∷ term_word b ∷ []) ++ rest)) w, ((ia.0, ib.0), higher_both (height a) (height b) n ia.1 ib.1))))
+    (λ h. by_word word (codes "or2") _ _ (got t rest) (Opened n word rest bytes t) h
+    (λ w h. two_sound r r (Lazy Either) bytes rest t h (Opened n word rest) (λ a b ia ib. (ap (λ w. w ++ (spaced (term_word a ∷ term_word b ∷ []) ++ rest)) w, ((ia.0, ib.0), higher_both (height a) (height b) n ia.1 ib.1))))
+    (λ h. by_word word (codes "if") _ _ (got t rest) (Opened n word rest bytes t) h
+    (λ w h. three_sound r r r Choice bytes rest t h (Opened n word rest) (λ a b c ia ib ic. (ap (λ w. w ++ (spaced (term_word a ∷ term_word b ∷ term_word c ∷ []) ++ rest)) w, ((ia.0, ib.0, ic.0), higher_three (height a) (height b) (height c) n ia.1 ib.1 ic.1))))
+    (λ h. operated_sound n again r (operator_of word) word bytes rest t (operator_sound word) h)))))))
 
 opened_complete : (n : ℕ) (again : List ℕ → Reading Term) → Reads again term_word (IsWithin n) → (t : Term) (rest : List ℕ) → IsWithin (suc n) t → Ends rest → read_opened again (front_word (inner t ++ rest)) (behind_word (inner t ++ rest)) ≡ got t rest
 opened_complete n again r (Constant Truth z) rest is e = one_complete constant_reads (Constant Truth) z rest is.0 e
@@ -110,10 +148,15 @@ opened_complete n again r (Constant U64 z) rest is e = one_complete constant_rea
 opened_complete n again r (Constant Ptr z) rest is e = one_complete constant_reads (Constant Ptr) z rest is.0 e
 opened_complete n again r (Register m) rest is e = one_complete number_reads Register m rest is.0 e
 opened_complete n again r (Object m) rest is e = one_complete number_reads Object m rest is.0 e
-opened_complete n again r (Load kind a) rest is e = two_complete kind_reads r Load kind a rest tt (is.0, lower (height a) n is.1) e
-  where
-    lower : (m n : ℕ) → suc m ≤ suc n → m ≤ n
-    lower m n h = omega arith
+opened_complete n again r (Load kind a) rest is e = two_complete kind_reads r Load kind a rest tt (is.0, lower_one (height a) n is.1) e
+opened_complete n again r (Convert to from a) rest is e = three_complete kind_reads kind_reads r Convert to from a rest tt tt (is.0, lower_one (height a) n is.1) e
+opened_complete n again r (Unary Neg kind a) rest is e = two_complete kind_reads r (Unary Neg) kind a rest tt (is.0, lower_one (height a) n is.1) e
+opened_complete n again r (Unary Not kind a) rest is e = two_complete kind_reads r (Unary Not) kind a rest tt (is.0, lower_one (height a) n is.1) e
+opened_complete n again r (Lazy Both a b) rest is e = two_complete r r (Lazy Both) a b rest (is.0.0, lower_left (height a) (height b) n is.1) (is.0.1, lower_right (height a) (height b) n is.1) e
+opened_complete n again r (Lazy Either a b) rest is e = two_complete r r (Lazy Either) a b rest (is.0.0, lower_left (height a) (height b) n is.1) (is.0.1, lower_right (height a) (height b) n is.1) e
+opened_complete n again r (Choice a b c) rest is e =
+    three_complete r r r Choice a b c rest (is.0.0, lower_first (height a) (height b) (height c) n is.1) (is.0.1, lower_second (height a) (height b) (height c) n is.1)
+    (is.0.2, lower_third (height a) (height b) (height c) n is.1) e
 opened_complete n again r (Binary Add kind a b) rest is e = three_complete kind_reads r r (Binary Add) kind a b rest tt (is.0.0, lower_left (height a) (height b) n is.1) (is.0.1, lower_right (height a) (height b) n is.1) e
 opened_complete n again r (Binary Sub kind a b) rest is e = three_complete kind_reads r r (Binary Sub) kind a b rest tt (is.0.0, lower_left (height a) (height b) n is.1) (is.0.1, lower_right (height a) (height b) n is.1) e
 opened_complete n again r (Binary Mul kind a b) rest is e = three_complete kind_reads r r (Binary Mul) kind a b rest tt (is.0.0, lower_left (height a) (height b) n is.1) (is.0.1, lower_right (height a) (height b) n is.1) e
@@ -133,8 +176,8 @@ opened_complete n again r (Binary Ne kind a b) rest is e = three_complete kind_r
 
 -- Expressions -------------------------------------------------------------------------------------------------------
 
-parenthesised : (n : ℕ) (again : List ℕ → Reading Term) → Reads again term_word (IsWithin n) → Reads (read_parenthesised again) term_word (IsWithin (suc n))
-parenthesised n again r = record { sound = sound; complete = complete }
+parenthesised_reads : (n : ℕ) (again : List ℕ → Reading Term) → Reads again term_word (IsWithin n) → Reads (read_parenthesised again) term_word (IsWithin (suc n))
+parenthesised_reads n again r = record { sound = sound; complete = complete }
   where
     sound : (bytes rest : List ℕ) (t : Term) → read_parenthesised again bytes ≡ got t rest → (bytes ≡ term_word t ++ rest) × IsWithin (suc n) t
     sound bytes rest t h =
@@ -158,12 +201,16 @@ tall (Constant kind z) h = omega arith
 tall (Register r) h = omega arith
 tall (Object n) h = omega arith
 tall (Load kind a) h = omega arith
+tall (Convert to from a) h = omega arith
+tall (Unary op kind a) h = omega arith
 tall (Binary op kind a b) h = omega arith
+tall (Lazy op a b) h = omega arith
+tall (Choice a b c) h = omega arith
 
 pub term_reads : (n : ℕ) → Reads (read_term n) term_word (IsWithin n)
 unfolding read_term
 term_reads zero = record { sound = λ bytes rest t h. cc; complete = λ t rest is e. absurd (tall t is.1) }
-term_reads (suc n) = parenthesised n (read_term n) (term_reads n)
+term_reads (suc n) = parenthesised_reads n (read_term n) (term_reads n)
 
 pub low_reads : Reads read_low term_word IsTerm
 low_reads =

@@ -4,10 +4,10 @@ use Rattle.std.specs.Prelude.{if◌then◌else◌, codes}
 use Rattle.std.specs.List.{AllByRecursion}
 use Rattle.dc_num.specs.declared.kind.NumKind.{NumKind}
 use Rattle.dc_text.specs.Words.{is_word}
-use Rattle.dc_goto.specs.Program.{Instr, Set, Store, Init, LocalZero, Covers, Call, Return, Trap, Statics, OutsideObjects, Draw, Seen, Require, Push, Range, Check, Pop}
+use Rattle.dc_goto.specs.Program.{Instr, Set, Keep, Store, Init, LocalZero, Kill, Covers, Call, Return, Trap, Goto, IfNot, Statics, OutsideObjects, Draw, Seen, Assert, Assume, Require, Push, Range, Check, Pop}
 use Rattle.dc_goto.specs.Text.{result_word, register_word, instr_line}
 use Rattle.dc_goto.specs.Lines.{Line, Version, Function, Static, Opening, Instruction, End, IsInstr, IsForm, IsOptionalNumber, is_check_name, is_body_name, line_text, form_bytes}
-use Rattle.dc_goto.specs.Reading.{Reading, got, then_read, behind_byte, begins_with, front_word, behind_word, read_word, literal, result_of, register_of, read_one, read_name, read_low, read_return, read_mark, read_control, read_instr, function_line, static_line_of, opening_line, read_form, read_line}
+use Rattle.dc_goto.specs.Reading.{Reading, got, then_read, behind_byte, begins_with, front_word, behind_word, read_word, literal, result_of, register_of, read_one, read_name, read_low, read_return, read_mark, read_test, read_control, read_instr, function_line, static_line_of, opening_line, read_form, read_line}
 use Rattle.dc_goto.proofs.Pieces.{then_parts, then_got, got_parts, behind_parts, by_word, word_whole, Reads, word_reads, one_complete, one_sound, two_complete, two_sound, three_complete, three_sound, four_complete, four_sound, list_complete, list_sound}
 use Rattle.dc_goto.proofs.Meanings.{IsAny, result_means, register_means, that_means, literal_means, word_goes_on, check_name_goes_on, body_name_goes_on}
 use Rattle.dc_goto.proofs.Expressions.{number_reads, kind_reads, low_reads}
@@ -58,10 +58,6 @@ mark_sound : (word bytes rest : List ℕ) (i : Instr) → read_mark word bytes �
 mark_sound word bytes rest i h =
     by_word word (codes "covers") _ _ (got i rest) (Says word rest bytes i) h
     (λ w h. at_word word (codes "covers") rest bytes i w (three_sound check_name_reads low_reads low_reads Covers bytes rest i h (Says (codes "covers") rest) (λ name a n is ia im. (refl, (is, ia, im)))))
-    (λ h. by_word word (codes "check") _ _ (got i rest) (Says word rest bytes i) h
-    (λ w h. at_word word (codes "check") rest bytes i w (two_sound check_name_reads low_reads Check bytes rest i h (Says (codes "check") rest) (λ name e is ie. (refl, (is, ie)))))
-    (λ h. by_word word (codes "require") _ _ (got i rest) (Says word rest bytes i) h
-    (λ w h. at_word word (codes "require") rest bytes i w (one_sound low_reads Require bytes rest i h (Says (codes "require") rest) (λ e ie. (refl, ie))))
     (λ h. by_word word (codes "range") _ _ (got i rest) (Says word rest bytes i) h
     (λ w h. at_word word (codes "range") rest bytes i w (four_sound number_reads low_reads low_reads low_reads Range bytes rest i h (Says (codes "range") rest) (λ tag e a n it ie ia im. (refl, (it, ie, ia, im)))))
     (λ h. by_word word (codes "seen") _ _ (got i rest) (Says word rest bytes i) h
@@ -70,7 +66,23 @@ mark_sound word bytes rest i h =
     (λ w h. alone word (codes "push") rest bytes i Push w refl tt h)
     (λ h. by_word word (codes "pop") _ _ (got i rest) (Says word rest bytes i) h
     (λ w h. alone word (codes "pop") rest bytes i Pop w refl tt h)
-    (λ h. cc)))))))
+    (λ h. cc)))))
+
+test_sound : (word bytes rest : List ℕ) (i : Instr) → read_test word bytes ≡ got i rest → Says word rest bytes i
+test_sound word bytes rest i h =
+    by_word word (codes "assert") _ _ (got i rest) (Says word rest bytes i) h
+    (λ w h. at_word word (codes "assert") rest bytes i w (two_sound check_name_reads low_reads Assert bytes rest i h (Says (codes "assert") rest) (λ name e is ie. (refl, (is, ie)))))
+    (λ h. by_word word (codes "check") _ _ (got i rest) (Says word rest bytes i) h
+    (λ w h. at_word word (codes "check") rest bytes i w (two_sound check_name_reads low_reads Check bytes rest i h (Says (codes "check") rest) (λ name e is ie. (refl, (is, ie)))))
+    (λ h. by_word word (codes "assume") _ _ (got i rest) (Says word rest bytes i) h
+    (λ w h. at_word word (codes "assume") rest bytes i w (one_sound low_reads Assume bytes rest i h (Says (codes "assume") rest) (λ e ie. (refl, ie))))
+    (λ h. by_word word (codes "require") _ _ (got i rest) (Says word rest bytes i) h
+    (λ w h. at_word word (codes "require") rest bytes i w (one_sound low_reads Require bytes rest i h (Says (codes "require") rest) (λ e ie. (refl, ie))))
+    (λ h. by_word word (codes "statics") _ _ (got i rest) (Says word rest bytes i) h
+    (λ w h. alone word (codes "statics") rest bytes i Statics w refl tt h)
+    (λ h. by_word word (codes "objects") _ _ (got i rest) (Says word rest bytes i) h
+    (λ w h. at_word word (codes "objects") rest bytes i w (one_sound four_reads (λ four. OutsideObjects) bytes rest i h (Says (codes "objects") rest) (λ four is. (refl, tt))))
+    (λ h. mark_sound word bytes rest i h))))))
 
 return_sound : (bytes rest : List ℕ) (i : Instr) → read_return bytes ≡ got i rest → Says (codes "return") rest bytes i
 return_sound bytes rest i h = by_test (begins_with 32 bytes) h
@@ -87,25 +99,29 @@ control_sound word bytes rest i h =
     (λ w h. at_word word (codes "return") rest bytes i w (return_sound bytes rest i h))
     (λ h. by_word word (codes "trap") _ _ (got i rest) (Says word rest bytes i) h
     (λ w h. alone word (codes "trap") rest bytes i Trap w refl tt h)
-    (λ h. by_word word (codes "statics") _ _ (got i rest) (Says word rest bytes i) h
-    (λ w h. alone word (codes "statics") rest bytes i Statics w refl tt h)
-    (λ h. by_word word (codes "objects") _ _ (got i rest) (Says word rest bytes i) h
-    (λ w h. at_word word (codes "objects") rest bytes i w (one_sound four_reads (λ four. OutsideObjects) bytes rest i h (Says (codes "objects") rest) (λ four is. (refl, tt))))
-    (λ h. mark_sound word bytes rest i h)))))
+    (λ h. by_word word (codes "goto") _ _ (got i rest) (Says word rest bytes i) h
+    (λ w h. at_word word (codes "goto") rest bytes i w (one_sound number_reads Goto bytes rest i h (Says (codes "goto") rest) (λ place ip. (refl, ip))))
+    (λ h. by_word word (codes "ifnot") _ _ (got i rest) (Says word rest bytes i) h
+    (λ w h. at_word word (codes "ifnot") rest bytes i w (two_sound low_reads number_reads IfNot bytes rest i h (Says (codes "ifnot") rest) (λ e place ie ip. (refl, (ie, ip)))))
+    (λ h. test_sound word bytes rest i h)))))
 
 instr_sound : (word bytes rest : List ℕ) (i : Instr) → read_instr word bytes ≡ got i rest → Says word rest bytes i
 instr_sound word bytes rest i h =
     by_word word (codes "set") _ _ (got i rest) (Says word rest bytes i) h
     (λ w h. at_word word (codes "set") rest bytes i w (two_sound number_reads low_reads Set bytes rest i h (Says (codes "set") rest) (λ r e ir ie. (refl, (ir, ie)))))
+    (λ h. by_word word (codes "keep") _ _ (got i rest) (Says word rest bytes i) h
+    (λ w h. at_word word (codes "keep") rest bytes i w (two_sound number_reads low_reads Keep bytes rest i h (Says (codes "keep") rest) (λ r e ir ie. (refl, (ir, ie)))))
+    (λ h. by_word word (codes "draw") _ _ (got i rest) (Says word rest bytes i) h
+    (λ w h. at_word word (codes "draw") rest bytes i w (two_sound number_reads kind_reads Draw bytes rest i h (Says (codes "draw") rest) (λ r k ir ik. (refl, ir))))
     (λ h. by_word word (codes "store") _ _ (got i rest) (Says word rest bytes i) h
     (λ w h. at_word word (codes "store") rest bytes i w (three_sound kind_reads low_reads low_reads Store bytes rest i h (Says (codes "store") rest) (λ k a e ik ia ie. (refl, (ia, ie)))))
     (λ h. by_word word (codes "init") _ _ (got i rest) (Says word rest bytes i) h
     (λ w h. at_word word (codes "init") rest bytes i w (three_sound kind_reads low_reads low_reads Init bytes rest i h (Says (codes "init") rest) (λ k a e ik ia ie. (refl, (ia, ie)))))
     (λ h. by_word word (codes "local") _ _ (got i rest) (Says word rest bytes i) h
     (λ w h. at_word word (codes "local") rest bytes i w (three_sound number_reads number_reads zero_reads (λ r size zeros. LocalZero r size) bytes rest i h (Says (codes "local") rest) (λ r size zeros ir is iz. (refl, (ir, is)))))
-    (λ h. by_word word (codes "draw") _ _ (got i rest) (Says word rest bytes i) h
-    (λ w h. at_word word (codes "draw") rest bytes i w (two_sound number_reads kind_reads Draw bytes rest i h (Says (codes "draw") rest) (λ r k ir ik. (refl, ir))))
-    (λ h. control_sound word bytes rest i h)))))
+    (λ h. by_word word (codes "kill") _ _ (got i rest) (Says word rest bytes i) h
+    (λ w h. at_word word (codes "kill") rest bytes i w (one_sound number_reads Kill bytes rest i h (Says (codes "kill") rest) (λ m im. (refl, im))))
+    (λ h. control_sound word bytes rest i h)))))))
 
 -- the bytes of an instruction in front of a line's end
 abbrev before_end : Instr → List ℕ → List ℕ
@@ -116,18 +132,24 @@ in_line reading = then_read reading (λ i. got (Instruction i))
 
 instr_complete : (i : Instr) (rest : List ℕ) → IsInstr i → read_form (front_word (before_end i rest)) (behind_word (before_end i rest)) ≡ got (Instruction i) (10 ∷ rest)
 instr_complete (Set r e) rest is = ap in_line (two_complete number_reads low_reads Set r e (10 ∷ rest) is.0 is.1 refl)
+instr_complete (Keep r e) rest is = ap in_line (two_complete number_reads low_reads Keep r e (10 ∷ rest) is.0 is.1 refl)
 instr_complete (Store k a e) rest is = ap in_line (three_complete kind_reads low_reads low_reads Store k a e (10 ∷ rest) tt is.0 is.1 refl)
 instr_complete (Init k a e) rest is = ap in_line (three_complete kind_reads low_reads low_reads Init k a e (10 ∷ rest) tt is.0 is.1 refl)
 instr_complete (LocalZero r size) rest is = ap in_line (three_complete number_reads number_reads zero_reads (λ r size zeros. LocalZero r size) r size tt (10 ∷ rest) is.0 is.1 tt refl)
+instr_complete (Kill m) rest is = ap in_line (one_complete number_reads Kill m (10 ∷ rest) is refl)
 instr_complete (Covers name a n) rest is = ap in_line (three_complete check_name_reads low_reads low_reads Covers name a n (10 ∷ rest) is.0 is.1 is.2 refl)
 instr_complete (Call r name arguments) rest is = ap in_line (list_complete register_reads name_reads low_reads Call r name arguments (10 ∷ rest) is.0 is.1 is.2 refl refl)
 instr_complete (Return None) rest is = refl
 instr_complete (Return (Some e)) rest is = ap in_line (one_complete low_reads (λ e. Return (Some e)) e (10 ∷ rest) is refl)
 instr_complete Trap rest is = refl
+instr_complete (Goto place) rest is = ap in_line (one_complete number_reads Goto place (10 ∷ rest) is refl)
+instr_complete (IfNot e place) rest is = ap in_line (two_complete low_reads number_reads IfNot e place (10 ∷ rest) is.0 is.1 refl)
 instr_complete Statics rest is = refl
 instr_complete OutsideObjects rest is = ap in_line (one_complete four_reads (λ four. OutsideObjects) tt (10 ∷ rest) tt refl)
 instr_complete (Draw r k) rest is = ap in_line (two_complete number_reads kind_reads Draw r k (10 ∷ rest) is tt refl)
 instr_complete Seen rest is = refl
+instr_complete (Assert name e) rest is = ap in_line (two_complete check_name_reads low_reads Assert name e (10 ∷ rest) is.0 is.1 refl)
+instr_complete (Assume e) rest is = ap in_line (one_complete low_reads Assume e (10 ∷ rest) is refl)
 instr_complete (Require e) rest is = ap in_line (one_complete low_reads Require e (10 ∷ rest) is refl)
 instr_complete Push rest is = refl
 instr_complete (Range tag e a n) rest is = ap in_line (four_complete number_reads low_reads low_reads low_reads Range tag e a n (10 ∷ rest) is.0 is.1 is.2 is.3 refl)

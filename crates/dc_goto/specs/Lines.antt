@@ -1,9 +1,9 @@
 -- The lines of a goto text, and which bytes are one.
 use Rattle.std.specs.Prelude.{◌≡◌, ◌≢◌, ℕ, suc, ◌^◌, ◌<◌, ◌≤◌, max, ℤ, pos, negsuc, Bool, true, false, ◌&&◌, ◌||◌, ◌==◌, List, [], ◌∷◌, ◌++◌, length, map, flat_map, codes, Option, None, Some}
 use Rattle.std.specs.List.{list_all, AllByRecursion}
-use Rattle.dc_core.specs.Term.{Term, Constant, Register, Object, Load, Binary}
+use Rattle.dc_core.specs.Term.{Term, Constant, Register, Object, Load, Convert, Unary, Binary, Lazy, Choice}
 use Rattle.dc_text.specs.Words.{same, is_word, is_word_part}
-use Rattle.dc_goto.specs.Program.{Instr, Set, Store, Init, LocalZero, Covers, Call, Return, Trap, Statics, OutsideObjects, Draw, Seen, Require, Push, Range, Check, Pop, Sig, StaticVar, Body, GotoProgram}
+use Rattle.dc_goto.specs.Program.{Instr, Set, Keep, Store, Init, LocalZero, Kill, Covers, Call, Return, Trap, Goto, IfNot, Statics, OutsideObjects, Draw, Seen, Assert, Assume, Require, Push, Range, Check, Pop, Sig, StaticVar, Body, GotoProgram}
 use Rattle.dc_goto.specs.Text.{sig_line, static_line, body_lines, instr_line, line_bytes}
 
 -- the first line of a body: its name, and the numbers of its parameters and registers
@@ -70,7 +70,11 @@ HasNumbers (Constant kind z) = IsConstant z
 HasNumbers (Register r) = IsNumber r
 HasNumbers (Object n) = IsNumber n
 HasNumbers (Load kind a) = HasNumbers a
+HasNumbers (Convert to from e) = HasNumbers e
+HasNumbers (Unary op kind e) = HasNumbers e
 HasNumbers (Binary op kind a b) = HasNumbers a × HasNumbers b
+HasNumbers (Lazy op a b) = HasNumbers a × HasNumbers b
+HasNumbers (Choice a b c) = HasNumbers a × HasNumbers b × HasNumbers c
 
 -- 1, and one more than the greatest height of the parts
 abbrev pub height : Term → ℕ
@@ -78,7 +82,11 @@ height (Constant kind z) = 1
 height (Register r) = 1
 height (Object n) = 1
 height (Load kind a) = suc (height a)
+height (Convert to from e) = suc (height e)
+height (Unary op kind e) = suc (height e)
 height (Binary op kind a b) = suc (max (height a) (height b))
+height (Lazy op a b) = suc (max (height a) (height b))
+height (Choice a b c) = suc (max (height a) (max (height b) (height c)))
 
 -- expressions are at most that high
 unfoldable pub height_limit : ℕ
@@ -113,17 +121,23 @@ IsOptionalTerm (Some t) = IsTerm t
 -- an instruction that may stand in a line
 abbrev pub IsInstr : Instr → Type 0
 IsInstr (Set r e) = IsNumber r × IsTerm e
+IsInstr (Keep r e) = IsNumber r × IsTerm e
 IsInstr (Store kind a e) = IsTerm a × IsTerm e
 IsInstr (Init kind a e) = IsTerm a × IsTerm e
 IsInstr (LocalZero r size) = IsNumber r × IsNumber size
+IsInstr (Kill m) = IsNumber m
 IsInstr (Covers name a n) = (is_check_name name ≡ true) × IsTerm a × IsTerm n
 IsInstr (Call r name arguments) = IsOptionalNumber r × (is_word name ≡ true) × AllByRecursion IsTerm arguments
 IsInstr (Return value) = IsOptionalTerm value
 IsInstr Trap = Unit {0}
+IsInstr (Goto place) = IsNumber place
+IsInstr (IfNot e place) = IsTerm e × IsNumber place
 IsInstr Statics = Unit {0}
 IsInstr OutsideObjects = Unit {0}
 IsInstr (Draw r kind) = IsNumber r
 IsInstr Seen = Unit {0}
+IsInstr (Assert name e) = (is_check_name name ≡ true) × IsTerm e
+IsInstr (Assume e) = IsTerm e
 IsInstr (Require e) = IsTerm e
 IsInstr Push = Unit {0}
 IsInstr (Range tag e a n) = IsNumber tag × IsTerm e × IsTerm a × IsTerm n

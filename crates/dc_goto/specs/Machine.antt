@@ -1,14 +1,19 @@
 -- What the machine does with a goto program.
-use Rattle.std.specs.Prelude.{ℕ, zero, suc, ◌-◌, ℤ, pos, Bool, true, false, ◌&&◌, not, nat_lt, List, [], ◌∷◌, ◌++◌, length, map, drop, replicate, Option, None, Some, slice_get, slice_set, nat_eq, if◌then◌else◌, codes}
+use Rattle.std.specs.Prelude.{ℕ, zero, suc, ◌-◌, ℤ, pos, Bool, true, false, ◌&&◌, not, nat_lt, List, [], ◌∷◌, ◌++◌, length, map, drop, take, replicate, Option, None, Some, slice_get, slice_set, nat_eq, if◌then◌else◌, codes}
 use Rattle.std.specs.Option.{option_map}
 use Rattle.std.specs.Cmp.Lexicographic.{pointwise}
+use Rattle.std.specs.Ordering.{int_eq}
 use Rattle.dc_num.specs.declared.kind.NumKind.{NumKind}
 use Rattle.dc_num.specs.declared.kind.NumKind.TheVariants.{U64}
 use Rattle.dc_num.specs.declared.operators.BinOp.{BinOp}
 use Rattle.dc_num.specs.declared.operators.BinOp.TheVariants.{Shl, Shr}
-use Rattle.dc_num.specs.Conversions.{bits, converted}
+use Rattle.dc_num.specs.declared.operators.UnOp.{UnOp}
+use Rattle.dc_num.specs.Conversions.{bits, converted, truth}
+use Rattle.dc_num.specs.Operators.{unary_of}
+use Rattle.dc_core.specs.declared.operators.LazyOp.{LazyOp}
+use Rattle.dc_core.specs.declared.operators.LazyOp.TheVariants.{Both, Either}
 use Rattle.dc_core.specs.Number.{computed}
-use Rattle.dc_core.specs.Event.{Event, Create, Write, End}
+use Rattle.dc_core.specs.Event.{Event, Create, Kill as Killed, Write, End}
 use Rattle.dc_core.specs.Event as end
 use Rattle.dc_memory.specs.declared.object.ObjKind.TheVariants.{Static}
 use Rattle.dc_memory.specs.Kinds.{size_of}
@@ -16,15 +21,15 @@ use Rattle.dc_memory.specs.Objects.{Memory, holding}
 use Rattle.dc_memory.specs.Places.{start_of, object_of, offset_of, is_inside}
 use Rattle.dc_memory.specs.Access.{load, store}
 use Rattle.dc_program.specs.Kinds.{mem_kind}
-use Rattle.dc_core.specs.Objects.{function_object, rewritten}
+use Rattle.dc_core.specs.Objects.{function_object, kill_all, rewritten}
 use Rattle.dc_core.specs.Choices.{Drawn, Drew, Dry, draw_value}
 use Rattle.dc_core.specs.World.{World, is_full, next_object, with_local, left, kill_events}
 use Rattle.dc_core.specs.Entry.{static_objects, with_outside}
 use Rattle.dc_core.specs.Contract.{holds, WriteSet, new_set, with_ranges, denoted, allowed}
 use Rattle.dc_core.specs.Run.{Note, Did, checked, seen}
 use Rattle.dc_core.specs.Outcome.{Outcome}
-use Rattle.dc_core.specs.Term.{Term, Constant, Register, Object as ObjectStart, Load, Binary}
-use Rattle.dc_goto.specs.Program.{Instr, Set, Store, Init, LocalZero, Covers, Call, Return, Trap, Statics, OutsideObjects, Draw, Seen, Require, Push, Range, Check, Pop, Sig, Body, GotoProgram}
+use Rattle.dc_core.specs.Term.{Term, Constant, Register, Object as ObjectStart, Load, Convert, Unary, Binary, Lazy, Choice}
+use Rattle.dc_goto.specs.Program.{Instr, Set, Keep, Store, Init, LocalZero, Kill, Covers, Call, Return, Trap, Goto, IfNot, Statics, OutsideObjects, Draw, Seen, Assert, Assume, Require, Push, Range, Check, Pop, Sig, Body, GotoProgram}
 
 -- Values --------------------------------------------------------------------------------------------------------
 
@@ -56,12 +61,38 @@ operated op kind None b = None
 operated op kind (Some a) None = None
 operated op kind (Some a) (Some b) = computed op kind (converted kind a) (right_operand op kind b)
 
+-- minus or the complement of a value that is converted to the kind
+abbrev pub negated : UnOp → NumKind → Option ℤ → Option ℤ
+negated op kind None = None
+negated op kind (Some a) = unary_of op kind (converted kind a)
+
+abbrev pub is_true : ℤ → Bool
+is_true z = not (int_eq z (pos 0))
+
+-- whether the first operand of a lazy operator decides it
+abbrev pub decides : LazyOp → Bool → Bool
+decides Both left = not left
+decides Either left = left
+
+-- the second operand counts where the first doesn't decide
+abbrev pub joined : LazyOp → Option ℤ → Option ℤ → Option ℤ
+joined op None b = None
+joined op (Some a) b = if decides op (is_true a) then Some (truth (is_true a)) else option_map (λ v. truth (is_true v)) b
+
+abbrev pub chosen : Option ℤ → Option ℤ → Option ℤ → Option ℤ
+chosen None b c = None
+chosen (Some a) b c = if is_true a then b else c
+
 abbrev pub term_value : Registers → Memory → Term → Option ℤ
 term_value regs memory (Constant kind z) = Some z
 term_value regs memory (Register r) = register_value (slice_get regs r)
 term_value regs memory (ObjectStart n) = Some (pos (start_of n))
 term_value regs memory (Load kind a) = load_from kind memory (term_value regs memory a)
+term_value regs memory (Convert to from e) = option_map (λ v. converted to (converted from v)) (term_value regs memory e)
+term_value regs memory (Unary op kind e) = negated op kind (term_value regs memory e)
 term_value regs memory (Binary op kind a b) = operated op kind (term_value regs memory a) (term_value regs memory b)
+term_value regs memory (Lazy op a b) = joined op (term_value regs memory a) (term_value regs memory b)
+term_value regs memory (Choice a b c) = chosen (term_value regs memory a) (term_value regs memory b) (term_value regs memory c)
 
 abbrev pub natural_value : Registers → Memory → Term → Option ℕ
 natural_value regs memory e = option_map as_natural (term_value regs memory e)
@@ -85,9 +116,11 @@ pub record Now : Type 0 where
   pub seen : List ℕ
   pub world : World
 
--- the next instruction is next; the run ends; a function is called, its result for a register; the body is left
+-- the next instruction is next; one at another place is; the run ends; a function is called, its result for a register; the
+-- body is left
 pub data Then : Type 0 where
   Next : List Note → Now → Then
+  Jumps : ℕ → Then
   Ends : List Note → End → World → Then
   Enters : Option ℕ → List ℕ → List ℤ → Then
   Leaves : Option ℤ → Then
@@ -99,6 +132,10 @@ given name w (Some v) go = go v
 
 abbrev pub with_register : ℕ → ℤ → Now → Now
 with_register r v s = record s { regs = slice_set s.regs r (Some v) }
+
+-- the register holds the value, or none
+abbrev pub with_held : ℕ → Option ℤ → Now → Now
+with_held r v s = record s { regs = slice_set s.regs r v }
 
 abbrev pub with_memory : Memory → Now → Now
 with_memory memory s = record s { world = record s.world { memory = memory } }
@@ -131,6 +168,22 @@ covered [] memory (Some pointer) (Some len) = not (nat_lt 0 len && is_inside mem
 covered (set ∷ sets) memory (Some pointer) (Some len) =
     if nat_lt 0 len && is_inside memory pointer len then allowed set (object_of pointer) (offset_of pointer) len else true
 
+-- the objects of a body but the first so many, newest first, and those
+abbrev pub newer : ℕ → List ℕ → List ℕ
+newer m locals = take (length locals - m) locals
+
+abbrev pub older : ℕ → List ℕ → List ℕ
+older m locals = drop (length locals - m) locals
+
+-- the objects of a body but the first so many die
+abbrev pub without_newer : ℕ → Now → Now
+without_newer m s =
+    record s { world = record s.world { memory = kill_all (newer m s.world.locals) s.world.memory; locals = older m s.world.locals } }
+
+abbrev pub jumping : ℕ → Bool → Now → Then
+jumping place true s = Next [] s
+jumping place false s = Jumps place
+
 abbrev pub required : Bool → Now → Then
 required true s = Next [] s
 required false s = Ends [] end.Blocked s.world
@@ -149,6 +202,7 @@ returned name s (Some e) = given name s.world (term_value s.regs s.world.memory 
 abbrev pub act : GotoProgram → List ℕ → Instr → Now → Then
 act p name (Set r e) s =
     given name s.world (term_value s.regs s.world.memory e) (λ v. Next [] (with_register r v s))
+act p name (Keep r e) s = Next [] (with_held r (term_value s.regs s.world.memory e) s)
 act p name (Store kind a e) s =
     given name s.world (natural_value s.regs s.world.memory a) (λ pointer.
     given name s.world (term_value s.regs s.world.memory e) (λ v.
@@ -159,6 +213,7 @@ act p name (Init kind a e) s =
     given name s.world (term_value s.regs s.world.memory e) (λ v.
     given name s.world (store (mem_kind kind) pointer v s.world.memory) (λ memory. Next [] (with_memory memory s))))
 act p name (LocalZero r size) s = local_created (is_full s.world) r size s
+act p name (Kill m) s = Next (map (λ object. Did (Killed object)) (newer m s.world.locals)) (without_newer m s)
 act p name (Covers check a n) s =
     Next
     (checked check
@@ -168,6 +223,8 @@ act p name (Call r function arguments) s =
     given name s.world (term_values s.regs s.world.memory arguments) (λ values. Enters r function values)
 act p name (Return value) s = returned name s value
 act p name Trap s = Ends [] (end.Undefined name) s.world
+act p name (Goto place) s = Jumps place
+act p name (IfNot e place) s = given name s.world (term_value s.regs s.world.memory e) (λ v. jumping place (is_true v) s)
 act p name Statics s =
     drawn (static_objects (static_sizes p) s.world.choices) s
     (λ statics t. with_memory (with_statics p statics t.world.memory) t)
@@ -175,6 +232,8 @@ act p name OutsideObjects s =
     drawn (with_outside s.world.memory s.world.choices) s (λ memory t. with_memory memory t)
 act p name (Draw r kind) s = drawn (draw_value kind s.world.choices) s (λ v t. with_register r v t)
 act p name Seen s = Next [] (record s { seen = [] })
+act p name (Assert check e) s = given name s.world (term_value s.regs s.world.memory e) (λ v. Next (checked check (is_true v)) s)
+act p name (Assume e) s = given name s.world (term_value s.regs s.world.memory e) (λ v. required (is_true v) s)
 act p name (Require e) s = required (holds (term_value s.regs s.world.memory e)) s
 act p name Push s = Next [] (record s { sets = new_set s.world.memory ∷ s.sets })
 act p name (Range tag e a n) s =
@@ -292,6 +351,7 @@ left_body s value (frame ∷ frames) =
 
 abbrev pub proceed : GotoProgram → Machine → Then → Run
 proceed p m (Next notes s) = Going notes (record m { place = suc m.place; now = s })
+proceed p m (Jumps place) = Going [] (record m { place = place })
 proceed p m (Ends notes end w) = Stopped notes end w
 proceed p m (Enters result name arguments) =
     entered p m result name arguments (nat_lt (length m.frames) depth_limit)

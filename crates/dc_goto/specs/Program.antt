@@ -5,17 +5,23 @@ use Rattle.dc_num.specs.declared.kind.NumKind.{NumKind}
 
 pub data Instr : Type 0 where
   Set : (register : ℕ) (value : Term) → Instr
+  Keep : (register : ℕ) (value : Term) → Instr
   Store : (kind : NumKind) (address value : Term) → Instr
   Init : (kind : NumKind) (address value : Term) → Instr
   LocalZero : (register size : ℕ) → Instr
+  Kill : (locals : ℕ) → Instr
   Covers : (name : List ℕ) (address len : Term) → Instr
   Call : (register : Option ℕ) (name : List ℕ) (arguments : List Term) → Instr
   Return : (value : Option Term) → Instr
   Trap : Instr
+  Goto : (place : ℕ) → Instr
+  IfNot : (test : Term) (place : ℕ) → Instr
   Statics : Instr
   OutsideObjects : Instr
   Draw : (register : ℕ) (kind : NumKind) → Instr
   Seen : Instr
+  Assert : (name : List ℕ) (test : Term) → Instr
+  Assume : (test : Term) → Instr
   Require : (test : Term) → Instr
   Push : Instr
   Range : (tag : ℕ) (condition address len : Term) → Instr

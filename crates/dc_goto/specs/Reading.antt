@@ -5,9 +5,11 @@ use Rattle.dc_num.specs.declared.operators.BinOp.{BinOp}
 use Rattle.dc_num.specs.declared.operators.BinOp.TheVariants.{Add, Sub, Mul, Div, Rem, Shl, Shr, And, Or, Xor, Lt, Le, Gt, Ge, Eq, Ne}
 use Rattle.dc_num.specs.declared.kind.NumKind.{NumKind}
 use Rattle.dc_num.specs.declared.kind.NumKind.TheVariants.{Bool as Truth, S8, U8, S16, U16, S32, U32, S64, U64, Ptr}
-use Rattle.dc_core.specs.Term.{Term, Constant, Register, Object, Load, Binary}
+use Rattle.dc_num.specs.declared.operators.UnOp.TheVariants.{Neg, Not}
+use Rattle.dc_core.specs.declared.operators.LazyOp.TheVariants.{Both, Either}
+use Rattle.dc_core.specs.Term.{Term, Constant, Register, Object, Load, Convert, Unary, Binary, Lazy, Choice}
 use Rattle.dc_text.specs.Words.{same, is_digit, is_word}
-use Rattle.dc_goto.specs.Program.{Instr, Set, Store, Init, LocalZero, Covers, Call, Return, Trap, Statics, OutsideObjects, Draw, Seen, Require, Push, Range, Check, Pop}
+use Rattle.dc_goto.specs.Program.{Instr, Set, Keep, Store, Init, LocalZero, Kill, Covers, Call, Return, Trap, Goto, IfNot, Statics, OutsideObjects, Draw, Seen, Assert, Assume, Require, Push, Range, Check, Pop}
 use Rattle.dc_goto.specs.Lines.{Line, Version, Function, Static, Opening, Instruction, End, height_limit, is_check_name, is_body_name}
 
 abbrev pub Reading : Type 0 → Type 0
@@ -200,10 +202,16 @@ abbrev pub read_operated : (List ℕ → Reading Term) → Option BinOp → List
 read_operated again None word bytes = read_leaf word bytes
 read_operated again (Some op) word bytes = read_three read_kind again again (Binary op) bytes
 
--- behind the first word, with a reader of the parts
+-- with expressions in it and no operator of two kinded operands, else any other, behind the first word
 abbrev pub read_opened : (List ℕ → Reading Term) → List ℕ → List ℕ → Reading Term
 read_opened again word bytes =
     if same word (codes "load") then read_two read_kind again Load bytes
+    else if same word (codes "conv") then read_three read_kind read_kind again Convert bytes
+    else if same word (codes "neg") then read_two read_kind again (Unary Neg) bytes
+    else if same word (codes "not") then read_two read_kind again (Unary Not) bytes
+    else if same word (codes "and2") then read_two again again (Lazy Both) bytes
+    else if same word (codes "or2") then read_two again again (Lazy Either) bytes
+    else if same word (codes "if") then read_three again again again Choice bytes
     else read_operated again (operator_of word) word bytes
 
 abbrev pub closed : Reading Term → Reading Term
@@ -235,33 +243,47 @@ read_return bytes =
 abbrev pub read_objects : List ℕ → Reading Instr
 read_objects bytes = read_one (read_word (literal (codes "4"))) (λ four. OutsideObjects) bytes
 
+-- write sets
 abbrev pub read_mark : List ℕ → List ℕ → Reading Instr
 read_mark word bytes =
     if same word (codes "covers") then read_three (read_name is_check_name) read_low read_low Covers bytes
-    else if same word (codes "check") then read_two (read_name is_check_name) read_low Check bytes
-    else if same word (codes "require") then read_one read_low Require bytes
     else if same word (codes "range") then read_four read_number read_low read_low read_low Range bytes
     else if same word (codes "seen") then got Seen bytes
     else if same word (codes "push") then got Push bytes
     else if same word (codes "pop") then got Pop bytes
     else None
 
+-- tests and the outside
+abbrev pub read_test : List ℕ → List ℕ → Reading Instr
+read_test word bytes =
+    if same word (codes "assert") then read_two (read_name is_check_name) read_low Assert bytes
+    else if same word (codes "check") then read_two (read_name is_check_name) read_low Check bytes
+    else if same word (codes "assume") then read_one read_low Assume bytes
+    else if same word (codes "require") then read_one read_low Require bytes
+    else if same word (codes "statics") then got Statics bytes
+    else if same word (codes "objects") then read_objects bytes
+    else read_mark word bytes
+
+-- where the run goes on
 abbrev pub read_control : List ℕ → List ℕ → Reading Instr
 read_control word bytes =
     if same word (codes "call") then read_list (read_word register_of) (read_name is_word) read_low Call bytes
     else if same word (codes "return") then read_return bytes
     else if same word (codes "trap") then got Trap bytes
-    else if same word (codes "statics") then got Statics bytes
-    else if same word (codes "objects") then read_objects bytes
-    else read_mark word bytes
+    else if same word (codes "goto") then read_one read_number Goto bytes
+    else if same word (codes "ifnot") then read_two read_low read_number IfNot bytes
+    else read_test word bytes
 
+-- registers, bytes and objects, and all others
 abbrev pub read_instr : List ℕ → List ℕ → Reading Instr
 read_instr word bytes =
     if same word (codes "set") then read_two read_number read_low Set bytes
+    else if same word (codes "keep") then read_two read_number read_low Keep bytes
+    else if same word (codes "draw") then read_two read_number read_kind Draw bytes
     else if same word (codes "store") then read_three read_kind read_low read_low Store bytes
     else if same word (codes "init") then read_three read_kind read_low read_low Init bytes
     else if same word (codes "local") then read_local bytes
-    else if same word (codes "draw") then read_two read_number read_kind Draw bytes
+    else if same word (codes "kill") then read_one read_number Kill bytes
     else read_control word bytes
 
 -- Lines -----------------------------------------------------------------------------------------------------------

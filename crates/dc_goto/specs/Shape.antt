@@ -1,10 +1,13 @@
 -- The rules for the lines of a goto text.
-use Rattle.std.specs.Prelude.{◌≡◌, ℕ, suc, Bool, true, false, ◌&&◌, ◌||◌, not, ◌==◌, nat_lt, nat_le, if◌then◌else◌, List, [], ◌∷◌, ◌++◌, length, flat_map, codes, Option, None, Some, slice_get}
+use Rattle.std.specs.Prelude.{◌≡◌, ℕ, suc, ◌+◌, Bool, true, false, ◌&&◌, ◌||◌, not, ◌==◌, nat_lt, nat_le, if◌then◌else◌, List, [], ◌∷◌, ◌++◌, length, reverse, flat_map, codes, Option, None, Some, slice_get}
 use Rattle.std.specs.List.{list_all, list_any, position_or_len, AllByRecursion}
-use Rattle.dc_num.specs.Kinds.{is_value}
-use Rattle.dc_core.specs.Term.{Term, Constant, Register, Object, Load, Binary}
+use Rattle.dc_num.specs.declared.operators.BinOp.{BinOp}
+use Rattle.dc_num.specs.declared.operators.BinOp.TheVariants.{Lt, Le, Gt, Ge, Eq, Ne}
+use Rattle.dc_num.specs.declared.kind.NumKind.{NumKind}
+use Rattle.dc_num.specs.Kinds.{is_pointer, is_value}
+use Rattle.dc_core.specs.Term.{Term, Constant, Register, Object, Load, Convert, Unary, Binary, Lazy, Choice}
 use Rattle.dc_text.specs.Words.{same}
-use Rattle.dc_goto.specs.Program.{Instr, Set, Store, Init, LocalZero, Covers, Call, Return, Trap, Statics, OutsideObjects, Draw, Seen, Require, Push, Range, Check, Pop, Sig, GotoProgram}
+use Rattle.dc_goto.specs.Program.{Instr, Set, Keep, Store, Init, LocalZero, Kill, Covers, Call, Return, Trap, Goto, IfNot, Statics, OutsideObjects, Draw, Seen, Assert, Assume, Require, Push, Range, Check, Pop, Sig, GotoProgram}
 use Rattle.dc_goto.specs.Text.{IsSpelt}
 use Rattle.dc_goto.specs.Lines.{BodyHead, Line, Version, Function, Static, Opening, Instruction, End, IsForm, AreLines, forms_of}
 
@@ -110,6 +113,19 @@ may_open functions before head =
 
 -- Instructions --------------------------------------------------------------------------------------------------------
 
+abbrev pub is_comparison : BinOp → Bool
+is_comparison Lt = true
+is_comparison Le = true
+is_comparison Gt = true
+is_comparison Ge = true
+is_comparison Eq = true
+is_comparison Ne = true
+is_comparison op = false
+
+-- comparisons are of pointers too, arithmetic is not
+abbrev pub may_compute : BinOp → NumKind → Bool
+may_compute op kind = is_comparison op || not (is_pointer kind)
+
 -- registers are below the body's number of registers, objects at most the number of functions and variables, and
 -- constants fit their kind
 abbrev pub may_mean : ℕ → ℕ → Term → Bool
@@ -117,7 +133,11 @@ may_mean objects regs (Constant kind z) = is_value kind z
 may_mean objects regs (Register r) = nat_lt r regs
 may_mean objects regs (Object n) = nat_le n objects
 may_mean objects regs (Load kind a) = may_mean objects regs a
-may_mean objects regs (Binary op kind a b) = may_mean objects regs a && may_mean objects regs b
+may_mean objects regs (Convert to from e) = may_mean objects regs e
+may_mean objects regs (Unary op kind e) = not (is_pointer kind) && may_mean objects regs e
+may_mean objects regs (Binary op kind a b) = may_compute op kind && may_mean objects regs a && may_mean objects regs b
+may_mean objects regs (Lazy op a b) = may_mean objects regs a && may_mean objects regs b
+may_mean objects regs (Choice a b c) = may_mean objects regs a && may_mean objects regs b && may_mean objects regs c
 
 abbrev pub may_take : ℕ → Option ℕ → Bool
 may_take regs None = true
@@ -142,38 +162,56 @@ abbrev pub may_give : ℕ → ℕ → Option Term → Bool
 may_give objects regs None = true
 may_give objects regs (Some value) = may_mean objects regs value
 
--- an instruction of a body, where those functions and that many objects are
-abbrev pub may_act : List Sig → ℕ → BodyHead → Instr → Bool
-may_act functions objects head (Set r e) = nat_lt r head.regs && may_mean objects head.regs e
-may_act functions objects head (Store kind a e) = may_mean objects head.regs a && may_mean objects head.regs e
-may_act functions objects head (Init kind a e) = may_mean objects head.regs a && may_mean objects head.regs e
-may_act functions objects head (LocalZero r size) = nat_lt r head.regs && is_size size
-may_act functions objects head (Covers name a n) = may_mean objects head.regs a && may_mean objects head.regs n
-may_act functions objects head (Call r name arguments) =
+-- an instruction of a body with so many instructions, where those functions and that many objects are
+abbrev pub may_act : List Sig → ℕ → BodyHead → ℕ → Instr → Bool
+may_act functions objects head count (Set r e) = nat_lt r head.regs && may_mean objects head.regs e
+may_act functions objects head count (Keep r e) = nat_lt r head.regs && may_mean objects head.regs e
+may_act functions objects head count (Store kind a e) = may_mean objects head.regs a && may_mean objects head.regs e
+may_act functions objects head count (Init kind a e) = may_mean objects head.regs a && may_mean objects head.regs e
+may_act functions objects head count (LocalZero r size) = nat_lt r head.regs && is_size size
+may_act functions objects head count (Kill m) = true
+may_act functions objects head count (Covers name a n) = may_mean objects head.regs a && may_mean objects head.regs n
+may_act functions objects head count (Call r name arguments) =
     may_call (sig_of functions name) r (length arguments) && may_take head.regs r
     && list_all (may_mean objects head.regs) arguments
-may_act functions objects head (Return value) =
+may_act functions objects head count (Return value) =
     may_return (sig_of functions head.name) value && may_give objects head.regs value
-may_act functions objects head Trap = true
-may_act functions objects head Statics = true
-may_act functions objects head OutsideObjects = true
-may_act functions objects head (Draw r kind) = nat_lt r head.regs
-may_act functions objects head Seen = true
-may_act functions objects head (Require e) = may_mean objects head.regs e
-may_act functions objects head Push = true
-may_act functions objects head (Range tag e a n) =
+may_act functions objects head count Trap = true
+may_act functions objects head count (Goto place) = nat_lt place count
+may_act functions objects head count (IfNot e place) = may_mean objects head.regs e && nat_lt place count
+may_act functions objects head count Statics = true
+may_act functions objects head count OutsideObjects = true
+may_act functions objects head count (Draw r kind) = nat_lt r head.regs
+may_act functions objects head count Seen = true
+may_act functions objects head count (Assert name e) = may_mean objects head.regs e
+may_act functions objects head count (Assume e) = may_mean objects head.regs e
+may_act functions objects head count (Require e) = may_mean objects head.regs e
+may_act functions objects head count Push = true
+may_act functions objects head count (Range tag e a n) =
     may_mean objects head.regs e && may_mean objects head.regs a && may_mean objects head.regs n
-may_act functions objects head (Check name e) = may_mean objects head.regs e
-may_act functions objects head Pop = true
+may_act functions objects head count (Check name e) = may_mean objects head.regs e
+may_act functions objects head count Pop = true
 
 -- an instruction in the last body
-abbrev pub may_act_in : List Sig → ℕ → Option BodyHead → Instr → Bool
-may_act_in functions objects None i = false
-may_act_in functions objects (Some head) i = may_act functions objects head i
+abbrev pub may_act_in : List Sig → ℕ → Option BodyHead → ℕ → Instr → Bool
+may_act_in functions objects None count i = false
+may_act_in functions objects (Some head) count i = may_act functions objects head count i
 
--- the last instruction of a body leaves it
+-- how many instructions stand at the front of lines
+abbrev pub code_front : List Line → ℕ
+code_front [] = 0
+code_front (Instruction i ∷ lines) = suc (code_front lines)
+code_front (line ∷ lines) = 0
+
+-- how many instructions a body has, some of them at the end of those lines and the others at the front of these, also where
+-- its end is missing
+abbrev pub code_around : List Line → List Line → ℕ
+code_around before lines = code_front (reverse before) + code_front lines
+
+-- the last instruction of a body leaves it, or goes on elsewhere
 abbrev pub leaves : Instr → Bool
 leaves (Return value) = true
+leaves (Goto place) = true
 leaves Trap = true
 leaves i = false
 
@@ -191,7 +229,7 @@ may_say before (Function sig) after = may_name (names_in before) sig.name
 may_say before (Static v) after = may_name (names_in before) v.name && is_size v.size
 may_say before (Opening head) after = may_open (functions_in before) (last (heads_in before)) head
 may_say before (Instruction i) after =
-    may_act_in (functions_in before) (length (names_in before)) (last (heads_in before)) i
+    may_act_in (functions_in before) (length (names_in before)) (last (heads_in before)) (code_around before (Instruction i ∷ after)) i
     && (leaves i || goes_on (first after))
 may_say before End after = true
 

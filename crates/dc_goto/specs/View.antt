@@ -12,17 +12,23 @@ use Rattle.dc_goto.specs.declared.program.GotoProgram.{GotoProgram}
 
 abbrev pub instr_view : Instr → plain.Instr
 instr_view (instr.Set r e) = plain.Set r (term_view e)
+instr_view (instr.Keep r e) = plain.Keep r (term_view e)
 instr_view (instr.Store kind a e) = plain.Store kind (term_view a) (term_view e)
 instr_view (instr.Init kind a e) = plain.Init kind (term_view a) (term_view e)
 instr_view (instr.LocalZero r size) = plain.LocalZero r size
+instr_view (instr.Kill m) = plain.Kill m
 instr_view (instr.Covers name a n) = plain.Covers name (term_view a) (term_view n)
 instr_view (instr.Call r name arguments) = plain.Call r name (map term_view arguments)
 instr_view (instr.Return value) = plain.Return (option_map term_view value)
 instr_view instr.Trap = plain.Trap
+instr_view (instr.Goto place) = plain.Goto place
+instr_view (instr.IfNot e place) = plain.IfNot (term_view e) place
 instr_view instr.Statics = plain.Statics
 instr_view instr.OutsideObjects = plain.OutsideObjects
 instr_view (instr.Draw r kind) = plain.Draw r kind
 instr_view instr.Seen = plain.Seen
+instr_view (instr.Assert name e) = plain.Assert name (term_view e)
+instr_view (instr.Assume e) = plain.Assume (term_view e)
 instr_view (instr.Require e) = plain.Require (term_view e)
 instr_view instr.Push = plain.Push
 instr_view (instr.Range tag e a n) = plain.Range tag (term_view e) (term_view a) (term_view n)

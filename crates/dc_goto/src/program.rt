@@ -2,17 +2,22 @@
 use dc_core::{Name, NumKind, Term};
 use sqlite_items::Items;
 
-/// One instruction. Registers are named by their numbers, and an address, a length or a value is an expression.
+/// One instruction. Registers are named by their numbers, places by the numbers of instructions in the body, and an address, a
+/// length or a value is an expression.
 #[derive(Drop)]
 pub enum Instr {
     /// The register takes the value; without one the run is undefined.
     Set(u64, Term),
+    /// The register takes the value, or none.
+    Keep(u64, Term),
     /// Writes a value of the kind at an address.
     Store(NumKind, Term, Term),
     /// Writes likewise, and is no event.
     Init(NumKind, Term, Term),
     /// A stack object of that many zero bytes, its start in the register.
     LocalZero(u64, u64),
+    /// The locals of the body beyond the first so many die, newest first.
+    Kill(u64),
     /// Fails the name where a write of that length at the address isn't allowed.
     Covers(Name, Term, Term),
     /// A call of a function with arguments, its result into a register if one is given.
@@ -21,6 +26,10 @@ pub enum Instr {
     Return(Option<Term>),
     /// The run is undefined.
     Trap,
+    /// The instruction at the place is next.
+    Goto(u64),
+    /// The instruction at the place is next where the value is 0.
+    IfNot(Term, u64),
     /// Draws the bytes of all variables of file scope.
     Statics,
     /// Draws the outside objects.
@@ -29,6 +38,10 @@ pub enum Instr {
     Draw(u64, NumKind),
     /// Empties the list of seen objects.
     Seen,
+    /// Fails the name where the value is 0; without one the run is undefined.
+    Assert(Name, Term),
+    /// Blocks the run where the value is 0; without one it is undefined.
+    Assume(Term),
     /// Blocks the run where the value is 0 or there is none.
     Require(Term),
     /// A new innermost write set.

@@ -14,7 +14,7 @@ use Rattle.dc_core.specs.World.{is_full, next_object, with_local}
 use Rattle.dc_world.specs.Told.{Hearing, happens}
 use Rattle.dc_goto.specs.Program as goto
 use Rattle.dc_goto.specs.Program.{GotoProgram}
-use Rattle.dc_goto.specs.Machine.{Now, Next, Ends, act, term_value, natural_value, with_register, covered, static_sizes, first_memory}
+use Rattle.dc_goto.specs.Machine.{is_true, Now, Next, Ends, act, term_value, natural_value, with_register, covered, static_sizes, first_memory}
 use mir.Syntax.{w128}
 
 pub set-none : (p : GotoProgram) (name : List ℕ) (r : ℕ) (e : Term) (s : Now) → term_value s.regs s.world.memory e ≡ None → act p name (goto.Set r e) s ≡ Ends [] (Undefined name) s.world
@@ -22,6 +22,18 @@ set-none p name r e s h = rw h refl
 
 pub set-some : (p : GotoProgram) (name : List ℕ) (r : ℕ) (e : Term) (s : Now) (v : ℤ) → term_value s.regs s.world.memory e ≡ Some v → act p name (goto.Set r e) s ≡ Next [] (with_register r v s)
 set-some p name r e s v h = rw h refl
+
+pub assert-none : (p : GotoProgram) (name check : List ℕ) (e : Term) (s : Now) → term_value s.regs s.world.memory e ≡ None → act p name (goto.Assert check e) s ≡ Ends [] (Undefined name) s.world
+assert-none p name check e s h = rw h refl
+
+pub assert-some : (p : GotoProgram) (name check : List ℕ) (e : Term) (s : Now) (v : ℤ) (held : Bool) → term_value s.regs s.world.memory e ≡ Some v → held ≡ is_true v → act p name (goto.Assert check e) s ≡ Next (checked check held) s
+assert-some p name check e s v held h k = rw (h, k) refl
+
+pub assume-none : (p : GotoProgram) (name : List ℕ) (e : Term) (s : Now) → term_value s.regs s.world.memory e ≡ None → act p name (goto.Assume e) s ≡ Ends [] (Undefined name) s.world
+assume-none p name e s h = rw h refl
+
+pub assume-failed : (p : GotoProgram) (name : List ℕ) (e : Term) (s : Now) (v : ℤ) → term_value s.regs s.world.memory e ≡ Some v → is_true v ≡ false → act p name (goto.Assume e) s ≡ Ends [] Blocked s.world
+assume-failed p name e s v h k = rw (h, k) refl
 
 pub check-act : (p : GotoProgram) (name check : List ℕ) (e : Term) (s : Now) (held : Bool) → held ≡ holds (term_value s.regs s.world.memory e) → act p name (goto.Check check e) s ≡ Next (checked check held) s
 check-act p name check e s held h = rw h refl

@@ -14,11 +14,7 @@ use Rattle.dc_goto.specs.Machine.{Now, Machine, Frame, Run, Going, Stopped, note
 use Rattle.dc_world.specs.Told.{Hearing, noted as hears, happens, told}
 use Rattle.dc_world.proofs.Drawing.{told-append}
 use Rattle.dc_world.specs.declared.report.End.{End}
-use Rattle.dc_core.specs.declared.term.Term as term
-use Rattle.dc_goto.specs.View.{instr_view}
-use Rattle.dc_goto.specs.declared.program.Instr.{Instr}
-use Rattle.dc_goto.specs.declared.program.Instr.TheVariants as instr
-use Rattle.dc_machine.specs.Step.{IsAlone, running, goes_on}
+use Rattle.dc_machine.specs.Step.{IsAlone, running}
 use Rattle.dc_machine.specs.View.{name_at, code_at}
 
 pub entered-none : (m : Machine) (r : Option ℕ) (name : List ℕ) (values : List ℤ) (o : Option Body) → o ≡ None → entered_body m r name values o ≡ Stopped [] (plain.NoBody name) m.now.world
@@ -112,6 +108,9 @@ pub call-some : (p : GotoProgram) (m : Machine) (name f : List ℕ) (r : Option 
     → proceed p m (act p name (goto.Call r f arguments) m.now) ≡ entered p m r f values (nat_lt (length m.frames) depth_limit)
 call-some p m name f r arguments values e = rw e refl
 
+pub branch-none : (p : GotoProgram) (m : Machine) (name : List ℕ) (e : Term) (place : ℕ) → term_value m.now.regs m.now.world.memory e ≡ None → proceed p m (act p name (goto.IfNot e place) m.now) ≡ Stopped [] (plain.Undefined name) m.now.world
+branch-none p m name e place h = rw h refl
+
 pub return-none : (p : GotoProgram) (m : Machine) (name : List ℕ) (e : Term) → term_value m.now.regs m.now.world.memory e ≡ None
     → proceed p m (act p name (goto.Return (Some e)) m.now) ≡ Stopped [] (plain.Undefined name) m.now.world
 return-none p m name e h = rw h refl
@@ -148,24 +147,3 @@ seen-none f xs k o e g = slice_get-map f xs k ∙ ap (option_map f) (sym e ∙ g
 
 pub seen-some : {A B : Type 0} (f : A → B) (xs : List A) (k : ℕ) (o : Option A) (x : A) → o ≡ slice_get xs k → o ≡ Some x → slice_get (map f xs) k ≡ Some (f x)
 seen-some f xs k o x e g = slice_get-map f xs k ∙ ap (option_map f) (sym e ∙ g)
-
--- returns ---------------------------------------------------------------------------------------------------------
-
-pub straight-other : (i : Instr) → ((r : Option ℕ) (f : List ℕ) (all : List term.Term) → i ≡ instr.Call r f all → ⊥) → ((value : Option term.Term) → i ≡ instr.Return value → ⊥) → goes_on (instr_view i) ≡ true
-straight-other (instr.Set r e) c d = refl
-straight-other (instr.Store kind a e) c d = refl
-straight-other (instr.Init kind a e) c d = refl
-straight-other (instr.LocalZero r size) c d = refl
-straight-other (instr.Covers name a n) c d = refl
-straight-other (instr.Call r name arguments) c d = absurd (c r name arguments refl)
-straight-other (instr.Return value) c d = absurd (d value refl)
-straight-other instr.Trap c d = refl
-straight-other instr.Statics c d = refl
-straight-other instr.OutsideObjects c d = refl
-straight-other (instr.Draw r kind) c d = refl
-straight-other instr.Seen c d = refl
-straight-other (instr.Require e) c d = refl
-straight-other instr.Push c d = refl
-straight-other (instr.Range tag e a n) c d = refl
-straight-other (instr.Check name e) c d = refl
-straight-other instr.Pop c d = refl

@@ -6,3 +6,4 @@ pub mod Acts
 pub mod Calls
 pub mod Longer
 pub mod Final
+pub mod Newest

@@ -14,11 +14,11 @@ use Rattle.dc_program.specs.Kinds.{mem_kind}
 use Rattle.dc_core.specs.Entry.{static_objects, live_object, dead_object, outside_object, outside_objects, with_outside}
 use Rattle.dc_core.specs.World.{World, is_full}
 use Rattle.dc_core.specs.Contract.{holds}
-use Rattle.dc_core.specs.Run.{Note, Did}
+use Rattle.dc_core.specs.Run.{Note, Did, checked}
 use Rattle.dc_world.specs.Reported.{dry_at}
 use Rattle.dc_core.specs.Term.{Term}
-use Rattle.dc_goto.specs.Program.{Instr, Set, Store, Init, LocalZero, Covers, Call, Return, Trap, Statics, OutsideObjects, Draw, Seen, Require, Push, Range, Check, Pop, Body, GotoProgram}
-use Rattle.dc_goto.specs.Machine.{term_value, term_values, natural_value, with_register, with_memory, with_statics, static_sizes, function_number, Now, Then, Next, Ends, Enters, Leaves, given, drawn, local_created, required, returned, act, Frame, Machine, Run, Going, Stopped, noted, go_on, body_of, entered_body, depth_limit, entered, left_body, proceed, step_at, step, steps, start_at, start, seen_run, goto_run}
+use Rattle.dc_goto.specs.Program.{Instr, Set, Keep, Store, Init, LocalZero, Kill, Covers, Call, Return, Trap, Goto, IfNot, Statics, OutsideObjects, Draw, Seen, Assert, Assume, Require, Push, Range, Check, Pop, Body, GotoProgram}
+use Rattle.dc_goto.specs.Machine.{term_value, term_values, natural_value, with_register, with_memory, with_statics, static_sizes, function_number, Now, Then, Next, Jumps, Ends, Enters, Leaves, given, drawn, local_created, is_true, jumping, required, returned, act, Frame, Machine, Run, Going, Stopped, noted, go_on, body_of, entered_body, depth_limit, entered, left_body, proceed, step_at, step, steps, start_at, start, seen_run, goto_run}
 
 -- Draws -----------------------------------------------------------------------------------------------------------
 
@@ -105,6 +105,7 @@ more_now rest s = record s { world = more rest s.world }
 
 abbrev SameThen : List ℕ → Then → Then → Type 0
 SameThen rest (Next notes s) t = t ≡ Next notes (more_now rest s)
+SameThen rest (Jumps place) t = t ≡ Jumps place
 SameThen rest (Ends notes end w) t = (end ≡ ChoicesEnded → ⊥) → t ≡ Ends notes end (more rest w)
 SameThen rest (Enters register name values) t = t ≡ Enters register name values
 SameThen rest (Leaves value) t = t ≡ Leaves value
@@ -131,6 +132,10 @@ required_same : (rest : List ℕ) (test : Bool) (s : Now) → SameThen rest (req
 required_same rest true s = refl
 required_same rest false s = λ n. refl
 
+jumping_same : (rest : List ℕ) (place : ℕ) (test : Bool) (s : Now) → SameThen rest (jumping place test s) (jumping place test (more_now rest s))
+jumping_same rest place true s = refl
+jumping_same rest place false s = refl
+
 returned_same : (rest name : List ℕ) (s : Now) (value : Option Term) → SameThen rest (returned name s value) (returned name (more_now rest s) value)
 returned_same rest name s None = refl
 returned_same rest name s (Some e) = given_now rest name s (term_value s.regs s.world.memory e) (λ v s. Leaves (Some v)) (λ v. refl)
@@ -138,6 +143,7 @@ returned_same rest name s (Some e) = given_now rest name s (term_value s.regs s.
 act_same : (rest : List ℕ) (p : GotoProgram) (name : List ℕ) (i : Instr) (s : Now) → SameThen rest (act p name i s) (act p name i (more_now rest s))
 act_same rest p name (Set r e) s =
     given_now rest name s (term_value s.regs s.world.memory e) (λ v s. Next [] (with_register r v s)) (λ v. refl)
+act_same rest p name (Keep r e) s = refl
 act_same rest p name (Store kind a e) s =
     given_now rest name s (natural_value s.regs s.world.memory a) (λ pointer s. given name s.world (term_value s.regs s.world.memory e) (λ v. given name s.world (store (mem_kind kind) pointer v s.world.memory) (λ memory. Next (Did (Write (object_of pointer) (offset_of pointer) (size_of (mem_kind kind))) ∷ []) (with_memory memory s))))
     (λ pointer. given_now rest name s (term_value s.regs s.world.memory e) (λ v s. given name s.world (store (mem_kind kind) pointer v s.world.memory) (λ memory. Next (Did (Write (object_of pointer) (offset_of pointer) (size_of (mem_kind kind))) ∷ []) (with_memory memory s)))
@@ -147,11 +153,15 @@ act_same rest p name (Init kind a e) s =
     (λ pointer. given_now rest name s (term_value s.regs s.world.memory e) (λ v s. given name s.world (store (mem_kind kind) pointer v s.world.memory) (λ memory. Next ([]) (with_memory memory s)))
     (λ v. given_now rest name s (store (mem_kind kind) pointer v s.world.memory) (λ memory s. Next ([]) (with_memory memory s)) (λ memory. refl)))
 act_same rest p name (LocalZero r size) s = local_same rest (is_full s.world) r size s
+act_same rest p name (Kill m) s = refl
 act_same rest p name (Covers check a n) s = refl
 act_same rest p name (Call r function arguments) s =
     given_now rest name s (term_values s.regs s.world.memory arguments) (λ values s. Enters r function values) (λ values. refl)
 act_same rest p name (Return value) s = returned_same rest name s value
 act_same rest p name Trap s = λ n. refl
+act_same rest p name (Goto place) s = refl
+act_same rest p name (IfNot e place) s =
+    given_now rest name s (term_value s.regs s.world.memory e) (λ v s. jumping place (is_true v) s) (λ v. jumping_same rest place (is_true v) s)
 act_same rest p name Statics s =
     drawn_same rest (static_objects (static_sizes p) s.world.choices) (static_objects (static_sizes p) (s.world.choices ++ rest)) s
     (λ statics t. with_memory (with_statics p statics t.world.memory) t) (statics_take (static_sizes p) s.world.choices rest) (λ v t. refl)
@@ -162,6 +172,10 @@ act_same rest p name (Draw r kind) s =
     drawn_same rest (draw_value kind s.world.choices) (draw_value kind (s.world.choices ++ rest)) s (λ v t. with_register r v t)
     (value_takes kind s.world.choices rest) (λ v t. refl)
 act_same rest p name Seen s = refl
+act_same rest p name (Assert check e) s =
+    given_now rest name s (term_value s.regs s.world.memory e) (λ v s. Next (checked check (is_true v)) s) (λ v. refl)
+act_same rest p name (Assume e) s =
+    given_now rest name s (term_value s.regs s.world.memory e) (λ v s. required (is_true v) s) (λ v. required_same rest (is_true v) s)
 act_same rest p name (Require e) s = required_same rest (holds (term_value s.regs s.world.memory e)) s
 act_same rest p name Push s = refl
 act_same rest p name (Range tag e a n) s = refl
@@ -197,6 +211,7 @@ left_same rest s value (frame ∷ frames) = refl
 
 proceed_same : (rest : List ℕ) (p : GotoProgram) (m : Machine) (t t' : Then) → SameThen rest t t' → SameRun rest (proceed p m t) (proceed p (more_machine rest m) t')
 proceed_same rest p m (Next notes s) t' e = ap (proceed p (more_machine rest m)) e
+proceed_same rest p m (Jumps place) t' e = ap (proceed p (more_machine rest m)) e
 proceed_same rest p m (Ends notes end w) t' e = λ n. ap (proceed p (more_machine rest m)) (e n)
 proceed_same rest p m (Enters result name values) t' e =
     subst (λ t. SameRun rest (proceed p m (Enters result name values)) (proceed p (more_machine rest m) t)) (sym e)

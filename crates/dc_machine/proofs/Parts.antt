@@ -5,7 +5,7 @@ use Rattle.dc_core.specs.Event as plain
 use Rattle.dc_core.specs.Run.{Note}
 use Rattle.dc_core.specs.World.{World}
 use Rattle.dc_goto.specs.Program.{GotoProgram}
-use Rattle.dc_goto.specs.Machine.{Now, Then, Next, Ends, Enters, Leaves, Machine, Run, Going, Stopped, noted, go_on, proceed, step, steps, seen_run}
+use Rattle.dc_goto.specs.Machine.{Now, Then, Next, Jumps, Ends, Enters, Leaves, Machine, Run, Going, Stopped, noted, go_on, proceed, step, steps, seen_run}
 use Rattle.dc_goto.proofs.Steps.{noted-noted, steps-add}
 use Rattle.dc_world.specs.Told.{Supply, IsTaken, Hearing, told}
 use Rattle.dc_world.specs.Report.{end_view}
@@ -32,6 +32,8 @@ alone-step form run state (Err e) s h h' a = record { numbers = []; notes = []; 
 -- an instruction, and the machine behind it
 behind_act : (p : GotoProgram) (m : Machine) (t : Then) (notes more : List Note) → notes_then t ≡ notes ++ more → (more : List Note) × (notes_run (proceed p m t) ≡ notes ++ more)
 behind_act p m (Next ns s) notes more e = (more, e)
+behind_act p m (Jumps place) [] more e = ([], refl)
+behind_act p m (Jumps place) (n ∷ notes) more e = cc
 behind_act p m (Ends ns end w) notes more e = (more, e)
 behind_act p m (Enters result name values) [] more e = (notes_run (proceed p m (Enters result name values)), refl)
 behind_act p m (Enters result name values) (n ∷ notes) more e = cc

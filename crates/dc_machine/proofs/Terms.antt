@@ -2,9 +2,20 @@
 use Rattle.std.proofs.Common.{◌≡◌, ℕ, zero, suc, ◌+◌, ◌<◌, ◌≤◌, ℤ, List, [], ◌∷◌, ◌++◌, length, map, take, drop, get_or, reverse, Option, Some, None, refl, ap, sym, ◌∙◌, arith, append_assoc, append-nil}
 use Rattle.std.specs.Prelude.{option_map}
 use Rattle.std.proofs.lemmas.List.{map-append, reverse-append, length-map, length-take-le}
+use Rattle.dc_num.specs.declared.kind.NumKind.TheVariants.{U64, Ptr}
+use Rattle.dc_num.specs.declared.operators.UnOp.{UnOp}
+use Rattle.dc_num.specs.declared.operators.UnOp.TheVariants.{Neg, Not}
+use Rattle.dc_num.specs.Conversions.{bits, converted}
+use Rattle.dc_num.specs.Operators.{unary_of}
 use Rattle.dc_memory.specs.Objects.{Memory}
 use Rattle.dc_core.specs.Term.{Term}
 use Rattle.dc_goto.specs.Machine.{Registers, term_value, with_value, term_values}
+
+-- a pointer's number is one of 64 bits to the operators of one operand
+pub pointer-unary : (op : UnOp) (z : ℤ) → unary_of op Ptr (converted Ptr z) ≡ unary_of op U64 (converted U64 z)
+unfolding unary_of converted bits
+pointer-unary Neg z = refl
+pointer-unary Not z = refl
 
 -- values as registers hold them
 abbrev pub held : Option (List ℤ) → Option (List (Option ℤ))

@@ -3,7 +3,7 @@ use Rattle.std.specs.Prelude.{◌≡◌, ℕ, Bool, true, false, List, [], ◌++
 use Rattle.dc_core.specs.Event as plain
 use Rattle.dc_core.specs.Run.{Note, seen}
 use Rattle.dc_core.specs.World.{World}
-use Rattle.dc_goto.specs.Program.{Instr, Set, Store, Init, LocalZero, Covers, Call, Return, Trap, Statics, OutsideObjects, Draw, Seen, Require, Push, Range, Check, Pop}
+use Rattle.dc_goto.specs.Program.{Instr, Set, Keep, Store, Init, LocalZero, Kill, Covers, Call, Return, Trap, Goto, IfNot, Statics, OutsideObjects, Draw, Seen, Assert, Assume, Require, Push, Range, Check, Pop}
 use Rattle.dc_goto.specs.Machine as machine
 use Rattle.dc_world.specs.Told.{Supply, IsTaken, Hearing, told}
 use Rattle.dc_world.specs.Report.{end_view}
@@ -71,6 +71,7 @@ IsAlone form run state (Err e) h h' = h' ≡ h
 
 abbrev pub notes_then : machine.Then → List Note
 notes_then (machine.Next notes s) = notes
+notes_then (machine.Jumps place) = []
 notes_then (machine.Ends notes end w) = notes
 notes_then (machine.Enters register name values) = []
 notes_then (machine.Leaves value) = []
@@ -85,20 +86,26 @@ notes_run (machine.Stopped notes end w) = notes
 abbrev pub running : Form machine.Machine machine.Run
 running = record { goes = machine.Going; ends = machine.Stopped; notes = notes_run }
 
--- every instruction but a call and a return goes on to the next
+-- every instruction but a call, a return and a jump goes on to the next
 abbrev pub goes_on : Instr → Bool
 goes_on (Set register value) = true
+goes_on (Keep register value) = true
 goes_on (Store kind place value) = true
 goes_on (Init kind place value) = true
 goes_on (LocalZero register size) = true
+goes_on (Kill first) = true
 goes_on (Covers name place len) = true
 goes_on (Call register name arguments) = false
 goes_on (Return value) = false
 goes_on Trap = true
+goes_on (Goto place) = false
+goes_on (IfNot test place) = false
 goes_on Statics = true
 goes_on OutsideObjects = true
 goes_on (Draw register kind) = true
 goes_on Seen = true
+goes_on (Assert name test) = true
+goes_on (Assume test) = true
 goes_on (Require test) = true
 goes_on Push = true
 goes_on (Range tag condition place len) = true

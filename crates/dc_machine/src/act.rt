@@ -11,7 +11,7 @@ ghost use Rattle.dc_world.specs.Told.{Hearing};
 ghost use Rattle.dc_world.specs.Log.{hearing};
 
 use crate::now::Now;
-use crate::term::{holds, start};
+use crate::term::{holds, is_true, start};
 use dc_choice::Watch;
 use dc_core::{NumKind, Term};
 use dc_memory::{object_number, offset};
@@ -55,6 +55,16 @@ impl Now {
                 Ok(None)
             }
         }
+    }
+
+    /// The register takes the value of the expression, or none where it has none.
+    pub fn keep(&mut self, register: u64, value: &Term) -> Result<Option<End>, AllocError>
+        ensures { (p : GotoProgram) (name : List ℕ) (h : Hearing) →
+            IsAlone acting (λ choices. act p name (plain.Keep register (term_view value.now)) (now_view self.old choices)) (now_view self.new) result h h }
+    {
+        let held = self.value(value);
+        self.put(register, held);
+        Ok(None)
     }
 
     /// Writes a value of the kind at an address.
@@ -139,6 +149,22 @@ impl Now {
         Ok(None)
     }
 
+    /// The running function's objects beyond the first so many die, the newest first.
+    pub fn kill<W: Watch>(
+        &mut self,
+        first: u64,
+        watch: &mut W,
+        log: &mut Log,
+    ) -> Result<Option<End>, AllocError>
+        ensures { (p : GotoProgram) (name : List ℕ) →
+            IsAlone acting (λ choices. act p name (plain.Kill first) (now_view self.old choices)) (now_view self.new) result
+            (hearing (W.records watch.old) (W.parts watch.old) log.old)
+            (hearing (W.records watch.new) (W.parts watch.new) log.new) }
+    {
+        self.kill_newer(first, watch, log);
+        Ok(None)
+    }
+
     /// Fails the name where a write of that length at the address isn't allowed.
     pub fn covers<W: Watch>(
         &mut self,
@@ -157,6 +183,52 @@ impl Now {
         let held = self.is_covered(self.natural(place), self.natural(len));
         log.check(alloc, watch, check, held)?;
         Ok(None)
+    }
+
+    /// Fails the name where the value is 0; without one the run ends as undefined.
+    pub fn assert<W: Watch>(
+        &mut self,
+        alloc: Global,
+        name: &[u8],
+        check: &[u8],
+        test: &Term,
+        watch: &mut W,
+        log: &mut Log,
+    ) -> Result<Option<End>, AllocError>
+        ensures { (p : GotoProgram) →
+            IsAlone acting (λ choices. act p name.now (plain.Assert check.now (term_view test.now)) (now_view self.old choices)) (now_view self.new) result
+            (hearing (W.records watch.old) (W.parts watch.old) log.old)
+            (hearing (W.records watch.new) (W.parts watch.new) log.new) }
+    {
+        match self.value(test) {
+            None => undefined(alloc, name),
+            Some(z) => {
+                log.check(alloc, watch, check, is_true(z))?;
+                Ok(None)
+            }
+        }
+    }
+
+    /// Blocks the run where the value is 0; without one it ends as undefined.
+    pub fn assume(
+        &mut self,
+        alloc: Global,
+        name: &[u8],
+        test: &Term,
+    ) -> Result<Option<End>, AllocError>
+        ensures { (p : GotoProgram) (h : Hearing) →
+            IsAlone acting (λ choices. act p name.now (plain.Assume (term_view test.now)) (now_view self.old choices)) (now_view self.new) result h h }
+    {
+        match self.value(test) {
+            None => undefined(alloc, name),
+            Some(z) => {
+                if is_true(z) {
+                    Ok(None)
+                } else {
+                    Ok(Some(End::Blocked))
+                }
+            }
+        }
     }
 
     /// Blocks the run where the value is 0 or there is none.

@@ -17,7 +17,7 @@ use dc_world::{End, Log};
 use std::alloc::{AllocError, Global};
 
 impl Now {
-    /// One instruction that is no call and no return.
+    /// One instruction that is no call, no return and no jump.
     pub fn act<C: Chooser, W: Watch>(
         &mut self,
         alloc: Global,
@@ -39,11 +39,13 @@ impl Now {
     {
         match instr {
             Instr::Set(register, value) => self.set(alloc, name, *register, value),
+            Instr::Keep(register, value) => self.keep(*register, value),
             Instr::Store(kind, place, value) => self.store(
                 alloc, name, *kind, place, value, watch, log,
             ),
             Instr::Init(kind, place, value) => self.init(alloc, name, *kind, place, value),
             Instr::LocalZero(register, len) => self.local_zero(*register, *len, watch, log),
+            Instr::Kill(first) => self.kill(*first, watch, log),
             Instr::Covers(check, place, len) => self.covers(
                 alloc,
                 check.as_slice(),
@@ -66,6 +68,10 @@ impl Now {
             Instr::Draw(register, kind) => self.draw_register(
                 *register, *kind, chooser, used, watch, log,
             ),
+            Instr::Assert(check, test) => {
+                self.assert(alloc, name, check.as_slice(), test, watch, log)
+            }
+            Instr::Assume(test) => self.assume(alloc, name, test),
             Instr::Require(test) => self.require(test),
             Instr::Push => self.push_set(alloc),
             Instr::Range(tag, condition, place, len) => self.add_range(*tag, condition, place, len),
@@ -74,6 +80,8 @@ impl Now {
             Instr::Seen => Ok(None),
             Instr::Call(_, _, _) => Ok(None),
             Instr::Return(_) => Ok(None),
+            Instr::Goto(_) => Ok(None),
+            Instr::IfNot(_, _) => Ok(None),
         }
     }
 }

@@ -16,7 +16,7 @@ ghost use Rattle.dc_world.specs.Log.{hearing};
 use crate::act::{no_body, undefined};
 use crate::now::Now;
 use crate::program::Linked;
-use crate::term::term_values;
+use crate::term::{is_true, term_values};
 use dc_choice::{Chooser, Watch};
 use dc_core::Term;
 use dc_goto::{Body, Instr};
@@ -327,6 +327,44 @@ impl Machine {
         }
     }
 
+    // A jump.
+    fn jump(&mut self, place: u64) -> Result<Option<End>, AllocError>
+        ensures { (p : plain.GotoProgram) (name : List ℕ) (h : Hearing) →
+            IsAlone running
+            (λ choices. proceed p (machine_view p.bodies self.old choices) (acted p name (plain.Goto place) (now_view self.old.now choices)))
+            (machine_view p.bodies self.new) result h h }
+    {
+        self.place = place as usize;
+        Ok(None)
+    }
+
+    // A jump where the value is 0, and on to the next place where it isn't.
+    fn branch(
+        &mut self,
+        alloc: Global,
+        name: &[u8],
+        test: &Term,
+        place: u64,
+    ) -> Result<Option<End>, AllocError>
+        requires { self.old.place + 1 < 2 ^ 64 }
+        ensures { (p : plain.GotoProgram) (h : Hearing) →
+            IsAlone running
+            (λ choices. proceed p (machine_view p.bodies self.old choices) (acted p name.now (plain.IfNot (term_view test.now) place) (now_view self.old.now choices)))
+            (machine_view p.bodies self.new) result h h }
+    {
+        match self.now.value(test) {
+            None => undefined(alloc, name),
+            Some(z) => {
+                self.place = if is_true(z) {
+                    self.place + 1
+                } else {
+                    place as usize
+                };
+                Ok(None)
+            }
+        }
+    }
+
     // An instruction that goes on to the next place.
     fn act<C: Chooser, W: Watch>(
         &mut self,
@@ -398,6 +436,8 @@ impl Machine {
                 )
             }
             Instr::Return(value) => self.return_value(alloc, name, value, watch, log),
+            Instr::Goto(place) => self.jump(*place),
+            Instr::IfNot(test, place) => self.branch(alloc, name, test, *place),
             other => self.act(alloc, p, name, other, chooser, used, watch, log),
         }
     }

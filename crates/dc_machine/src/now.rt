@@ -1,8 +1,8 @@
 // What instructions read and change.
-ghost use Rattle.std.specs.Prelude.{◌≡◌, List, ℕ, ℤ, pos, Some, None, reverse, map, is_some};
+ghost use Rattle.std.specs.Prelude.{◌≡◌, List, ℕ, pos, Some, None, reverse, map, is_some};
 ghost use Rattle.dc_core.specs.World.{is_full as is_full_world};
 ghost use Rattle.dc_core.specs.View.{term_view};
-ghost use Rattle.dc_goto.specs.Machine.{with_register, covered, term_value as value_of, natural_value as natural_of};
+ghost use Rattle.dc_goto.specs.Machine.{with_held, covered, term_value as value_of, natural_value as natural_of};
 ghost use Rattle.dc_machine.specs.View.{now_view};
 ghost use Rattle.dc_machine.specs.Written.{IsWritten};
 ghost use Rattle.dc_world.specs.Sets.{set_view};
@@ -40,8 +40,7 @@ impl Now {
 
     /// The register takes what is held, where there is such a register.
     pub fn put(&mut self, register: u64, held: Option<i128>)
-        ensures { (value : ℤ) (choices : List ℕ) → held ≡ Some value →
-            now_view self.new choices ≡ with_register register value (now_view self.old choices) }
+        ensures { (choices : List ℕ) → now_view self.new choices ≡ with_held register held (now_view self.old choices) }
     {
         if register < self.regs.len() as u64 {
             self.regs[register as usize] = held;

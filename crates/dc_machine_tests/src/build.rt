@@ -1,14 +1,16 @@
 // Goto programs by hand.
-use dc_core::{BinOp, Name, NumKind, Term};
+use dc_core::{BinOp, LazyOp, Name, NumKind, Term, UnOp};
 use dc_goto::{Body, GotoProgram, Instr, Sig, StaticVar};
 use sqlite_items::{Boxed, Items};
 use std::alloc::{AllocError, Global};
 
-fn name(alloc: Global, text: &str) -> Result<Name, AllocError> {
+/// A name of these characters.
+pub fn name(alloc: Global, text: &str) -> Result<Name, AllocError> {
     Name::copied(alloc, text.as_bytes())
 }
 
-fn int(z: i128) -> Term {
+/// A constant int.
+pub fn int(z: i128) -> Term {
     Term::Constant(NumKind::S32, z)
 }
 
@@ -16,11 +18,13 @@ fn word(z: i128) -> Term {
     Term::Constant(NumKind::U64, z)
 }
 
-fn load(alloc: Global, place: Term) -> Result<Term, AllocError> {
+/// The int at an address.
+pub fn load(alloc: Global, place: Term) -> Result<Term, AllocError> {
     Ok(Term::Load(NumKind::S32, Boxed::new(alloc, place)?))
 }
 
-fn binary(alloc: Global, op: BinOp, a: Term, b: Term) -> Result<Term, AllocError> {
+/// What an operator makes of two ints.
+pub fn binary(alloc: Global, op: BinOp, a: Term, b: Term) -> Result<Term, AllocError> {
     let a = Boxed::new(alloc, a)?;
     let b = Boxed::new(alloc, b)?;
     Ok(Term::Binary(op, NumKind::S32, a, b))
@@ -147,8 +151,12 @@ pub fn startless_program(alloc: Global) -> Result<GotoProgram, AllocError> {
     program(alloc, Items::new(alloc))
 }
 
-// A start with registers and this code, alone.
-fn start_program(alloc: Global, regs: u64, code: Items<Instr>) -> Result<GotoProgram, AllocError> {
+/// A start with registers and this code, alone.
+pub fn start_program(
+    alloc: Global,
+    regs: u64,
+    code: Items<Instr>,
+) -> Result<GotoProgram, AllocError> {
     let mut bodies = Items::new(alloc);
     bodies.push(body(alloc, ".start", 0, regs, code)?)?;
     program(alloc, bodies)
@@ -189,6 +197,74 @@ pub fn computing_program(
     let mut code = Items::new(alloc);
     code.push(Instr::Return(Some(Term::Binary(op, kind, a, b))))?;
     start_program(alloc, 0, code)
+}
+
+// A start that returns the value of an expression.
+fn returning_program(alloc: Global, term: Term) -> Result<GotoProgram, AllocError> {
+    let mut code = Items::new(alloc);
+    code.push(Instr::Return(Some(term)))?;
+    start_program(alloc, 0, code)
+}
+
+/// A start that returns a number that is converted to the first kind from the second.
+pub fn converting_program(
+    alloc: Global,
+    to: NumKind,
+    from: NumKind,
+    z: i128,
+) -> Result<GotoProgram, AllocError> {
+    let value = Boxed::new(alloc, wide(z))?;
+    returning_program(alloc, Term::Convert(to, from, value))
+}
+
+/// A start that returns minus or the complement of a number.
+pub fn negating_program(
+    alloc: Global,
+    op: UnOp,
+    kind: NumKind,
+    z: i128,
+) -> Result<GotoProgram, AllocError> {
+    let value = Boxed::new(alloc, wide(z))?;
+    returning_program(alloc, Term::Unary(op, kind, value))
+}
+
+/// An expression with the value, or a quotient by 0 in place of none.
+pub fn valued(alloc: Global, value: Option<i128>) -> Result<Term, AllocError> {
+    match value {
+        Some(z) => Ok(wide(z)),
+        None => binary(alloc, BinOp::Div, int(1), int(0)),
+    }
+}
+
+// Likewise in a box.
+fn boxed(alloc: Global, value: Option<i128>) -> Result<Boxed<Term>, AllocError> {
+    let term = valued(alloc, value)?;
+    Boxed::new(alloc, term)
+}
+
+/// A start that returns what a lazy operator makes of two values.
+pub fn joining_program(
+    alloc: Global,
+    op: LazyOp,
+    a: Option<i128>,
+    b: Option<i128>,
+) -> Result<GotoProgram, AllocError> {
+    let a = boxed(alloc, a)?;
+    let b = boxed(alloc, b)?;
+    returning_program(alloc, Term::Lazy(op, a, b))
+}
+
+/// A start that returns the second value or the third, as the first is.
+pub fn choosing_program(
+    alloc: Global,
+    a: Option<i128>,
+    b: Option<i128>,
+    c: Option<i128>,
+) -> Result<GotoProgram, AllocError> {
+    let a = boxed(alloc, a)?;
+    let b = boxed(alloc, b)?;
+    let c = boxed(alloc, c)?;
+    returning_program(alloc, Term::Choice(a, b, c))
 }
 
 /// A start that writes a number as a value of one kind, and returns what stands there as a value of another.

@@ -4,6 +4,10 @@
 #[cfg(test)]
 mod build;
 #[cfg(test)]
+mod jumps;
+#[cfg(test)]
+mod kills;
+#[cfg(test)]
 mod numbers;
 #[cfg(test)]
 mod runs;

@@ -1,7 +1,10 @@
 // Numbers of each kind, as the machine computes them, keeps them and draws them.
-use crate::build::{computing_program, drawing_program, storing_program};
+use crate::build::{
+    choosing_program, computing_program, converting_program, drawing_program, joining_program,
+    negating_program, storing_program,
+};
 use dc_choice::{CountWatch, ListChooser};
-use dc_core::{BinOp, NumKind};
+use dc_core::{BinOp, LazyOp, NumKind, UnOp};
 use dc_goto::GotoProgram;
 use dc_machine::run_goto;
 use dc_text::Choices;
@@ -104,6 +107,85 @@ fn draws(rt: HostRuntime) -> Result<(), Fail> {
             "{}",
             number
         );
+    }
+    Ok(())
+}
+
+// A number that is converted to the first kind from the second.
+const CONVERTED: [(NumKind, NumKind, i128, i128); 6] = [
+    (NumKind::S8, NumKind::U32, 300, 44),
+    (NumKind::U64, NumKind::S8, 255, 18446744073709551615),
+    (NumKind::U64, NumKind::U8, -1, 255),
+    (NumKind::Bool, NumKind::U8, 256, 0),
+    (NumKind::S32, NumKind::Bool, 256, 1),
+    (NumKind::Ptr, NumKind::S64, -1, 18446744073709551615),
+];
+
+#[test]
+fn conversions(rt: HostRuntime) -> Result<(), Fail> {
+    for (to, from, z, value) in &CONVERTED {
+        let p = converting_program(rt.alloc(), *to, *from, *z)?;
+        assert_eq!(rt; returned(rt.alloc(), &p, 0)?, Some(*value), "{}", z);
+    }
+    Ok(())
+}
+
+// Minus, or the complement, of a number that is converted to the kind.
+const NEGATED: [(UnOp, NumKind, i128, Option<i128>); 8] = [
+    (UnOp::Neg, NumKind::S32, 5, Some(-5)),
+    (UnOp::Neg, NumKind::U8, 257, Some(255)),
+    (UnOp::Neg, NumKind::S32, 2147483648, None),
+    (UnOp::Neg, NumKind::S64, -9223372036854775808, None),
+    (UnOp::Neg, NumKind::Bool, 2, Some(1)),
+    (UnOp::Not, NumKind::S32, 0, Some(-1)),
+    (UnOp::Not, NumKind::U8, 1, Some(254)),
+    (UnOp::Not, NumKind::U64, -1, Some(0)),
+];
+
+#[test]
+fn negations(rt: HostRuntime) -> Result<(), Fail> {
+    for (op, kind, z, value) in &NEGATED {
+        let p = negating_program(rt.alloc(), *op, *kind, *z)?;
+        assert_eq!(rt; returned(rt.alloc(), &p, 0)?, *value, "{}", z);
+    }
+    Ok(())
+}
+
+// A lazy operator, two values or none, and what it makes of them.
+const JOINED: [(LazyOp, Option<i128>, Option<i128>, Option<i128>); 9] = [
+    (LazyOp::Both, Some(0), None, Some(0)),
+    (LazyOp::Both, Some(5), Some(-7), Some(1)),
+    (LazyOp::Both, Some(1), Some(0), Some(0)),
+    (LazyOp::Both, Some(1), None, None),
+    (LazyOp::Either, Some(3), None, Some(1)),
+    (LazyOp::Either, Some(0), Some(4), Some(1)),
+    (LazyOp::Either, Some(0), Some(0), Some(0)),
+    (LazyOp::Either, Some(0), None, None),
+    (LazyOp::Either, None, Some(1), None),
+];
+
+#[test]
+fn lazy_operators(rt: HostRuntime) -> Result<(), Fail> {
+    for (op, a, b, value) in &JOINED {
+        let p = joining_program(rt.alloc(), *op, *a, *b)?;
+        assert_eq!(rt; returned(rt.alloc(), &p, 0)?, *value, "{:?} {:?}", a, b);
+    }
+    Ok(())
+}
+
+// Three values or none, and what is chosen of the second and the third.
+const CHOSEN: [(Option<i128>, Option<i128>, Option<i128>, Option<i128>); 4] = [
+    (Some(2), Some(10), None, Some(10)),
+    (Some(0), None, Some(20), Some(20)),
+    (Some(1), None, Some(20), None),
+    (None, Some(10), Some(20), None),
+];
+
+#[test]
+fn choices(rt: HostRuntime) -> Result<(), Fail> {
+    for (a, b, c, value) in &CHOSEN {
+        let p = choosing_program(rt.alloc(), *a, *b, *c)?;
+        assert_eq!(rt; returned(rt.alloc(), &p, 0)?, *value, "{:?}", a);
     }
     Ok(())
 }

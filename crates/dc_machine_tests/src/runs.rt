@@ -11,8 +11,8 @@ use dc_world::{End, RunReport, Which};
 use std::alloc::{AllocError, Global};
 use std::test::Fail;
 
-// Which end it is.
-fn word(end: &End) -> &'static str {
+/// Which end it is.
+pub fn word(end: &End) -> &'static str {
     match end {
         End::Returned(_) => "returned",
         End::Blocked => "blocked",
@@ -25,8 +25,13 @@ fn word(end: &End) -> &'static str {
     }
 }
 
-// The run of a program on a list.
-fn run(alloc: Global, p: &GotoProgram, list: &[u64], steps: u64) -> Result<RunReport, AllocError> {
+/// The run of a program on a list.
+pub fn run(
+    alloc: Global,
+    p: &GotoProgram,
+    list: &[u64],
+    steps: u64,
+) -> Result<RunReport, AllocError> {
     let choices = Choices::of(Vec::from_slice(alloc, list)?);
     let mut chooser = ListChooser::new(choices);
     let mut watch = CountWatch::new();

@@ -4,7 +4,7 @@ ghost use Rattle.std.specs.Option.{option_map};
 ghost use Rattle.dc_core.specs.View.{term_view};
 ghost use Rattle.dc_goto.specs.View.{instr_view};
 ghost use Rattle.dc_goto.specs.Text.{instr_line, spaced, register_word, term_word};
-ghost use Rattle.dc_goto.specs.Program.{Set, Store, Init, LocalZero, Covers, Call, Return, Draw, Require, Range, Check};
+ghost use Rattle.dc_goto.specs.Program.{Set, Keep, Store, Init, LocalZero, Kill, Covers, Call, Return, Goto, IfNot, Draw, Assert, Assume, Require, Range, Check};
 
 use crate::decimal::put_decimal;
 use crate::words::{put_spaced, put_spaced_decimal, put_spaced_kind, put_spaced_term};
@@ -44,6 +44,16 @@ fn put_set(alloc: Global, out: &mut Vec<u8>, register: u64, value: &Term) -> Res
     ensures { OnOk result (out.new.items ≡ out.old.items ++ instr_line (Set register (term_view value.now))) }
 {
     out.extend_from_slice(b"set")?;
+    put_spaced_decimal(alloc, out, register)?;
+    put_spaced_term(alloc, out, value)?;
+    Ok(())
+}
+
+// A value, or none, kept in a register.
+fn put_keep(alloc: Global, out: &mut Vec<u8>, register: u64, value: &Term) -> Result<(), AllocError>
+    ensures { OnOk result (out.new.items ≡ out.old.items ++ instr_line (Keep register (term_view value.now))) }
+{
+    out.extend_from_slice(b"keep")?;
     put_spaced_decimal(alloc, out, register)?;
     put_spaced_term(alloc, out, value)?;
     Ok(())
@@ -94,6 +104,15 @@ fn put_local(alloc: Global, out: &mut Vec<u8>, register: u64, size: u64) -> Resu
     Ok(())
 }
 
+// The locals beyond the first so many die.
+fn put_kill(alloc: Global, out: &mut Vec<u8>, locals: u64) -> Result<(), AllocError>
+    ensures { OnOk result (out.new.items ≡ out.old.items ++ instr_line (Kill locals)) }
+{
+    out.extend_from_slice(b"kill")?;
+    put_spaced_decimal(alloc, out, locals)?;
+    Ok(())
+}
+
 // The write of a length at an address is allowed.
 fn put_covers(
     alloc: Global,
@@ -139,6 +158,25 @@ fn put_return(alloc: Global, out: &mut Vec<u8>, value: &Option<Term>) -> Result<
     Ok(())
 }
 
+// Another place is next.
+fn put_goto(alloc: Global, out: &mut Vec<u8>, place: u64) -> Result<(), AllocError>
+    ensures { OnOk result (out.new.items ≡ out.old.items ++ instr_line (Goto place)) }
+{
+    out.extend_from_slice(b"goto")?;
+    put_spaced_decimal(alloc, out, place)?;
+    Ok(())
+}
+
+// Another place is next where the value is 0.
+fn put_if_not(alloc: Global, out: &mut Vec<u8>, test: &Term, place: u64) -> Result<(), AllocError>
+    ensures { OnOk result (out.new.items ≡ out.old.items ++ instr_line (IfNot (term_view test.now) place)) }
+{
+    out.extend_from_slice(b"ifnot")?;
+    put_spaced_term(alloc, out, test)?;
+    put_spaced_decimal(alloc, out, place)?;
+    Ok(())
+}
+
 // A value of a kind drawn into a register.
 fn put_draw(
     alloc: Global,
@@ -151,6 +189,25 @@ fn put_draw(
     out.extend_from_slice(b"draw")?;
     put_spaced_decimal(alloc, out, register)?;
     put_spaced_kind(out, kind)?;
+    Ok(())
+}
+
+// A test with a value, without which the name fails.
+fn put_assert(alloc: Global, out: &mut Vec<u8>, name: &[u8], test: &Term) -> Result<(), AllocError>
+    ensures { OnOk result (out.new.items ≡ out.old.items ++ instr_line (Assert name.now (term_view test.now))) }
+{
+    out.extend_from_slice(b"assert")?;
+    put_spaced(out, name)?;
+    put_spaced_term(alloc, out, test)?;
+    Ok(())
+}
+
+// A test with a value, without which the run is blocked.
+fn put_assume(alloc: Global, out: &mut Vec<u8>, test: &Term) -> Result<(), AllocError>
+    ensures { OnOk result (out.new.items ≡ out.old.items ++ instr_line (Assume (term_view test.now))) }
+{
+    out.extend_from_slice(b"assume")?;
+    put_spaced_term(alloc, out, test)?;
     Ok(())
 }
 
@@ -198,9 +255,11 @@ pub fn put_instr(alloc: Global, out: &mut Vec<u8>, instr: &Instr) -> Result<(), 
 {
     match instr {
         Instr::Set(r, value) => put_set(alloc, out, *r, value),
+        Instr::Keep(r, value) => put_keep(alloc, out, *r, value),
         Instr::Store(kind, address, value) => put_store(alloc, out, *kind, address, value),
         Instr::Init(kind, address, value) => put_init(alloc, out, *kind, address, value),
         Instr::LocalZero(r, size) => put_local(alloc, out, *r, *size),
+        Instr::Kill(locals) => put_kill(alloc, out, *locals),
         Instr::Covers(name, address, len) => put_covers(alloc, out, name.as_slice(), address, len),
         Instr::Call(r, name, arguments) => put_call(
             alloc,
@@ -211,10 +270,14 @@ pub fn put_instr(alloc: Global, out: &mut Vec<u8>, instr: &Instr) -> Result<(), 
         ),
         Instr::Return(value) => put_return(alloc, out, value),
         Instr::Trap => out.extend_from_slice(b"trap"),
+        Instr::Goto(place) => put_goto(alloc, out, *place),
+        Instr::IfNot(test, place) => put_if_not(alloc, out, test, *place),
         Instr::Statics => out.extend_from_slice(b"statics"),
         Instr::OutsideObjects => out.extend_from_slice(b"objects 4"),
         Instr::Draw(r, kind) => put_draw(alloc, out, *r, *kind),
         Instr::Seen => out.extend_from_slice(b"seen"),
+        Instr::Assert(name, test) => put_assert(alloc, out, name.as_slice(), test),
+        Instr::Assume(test) => put_assume(alloc, out, test),
         Instr::Require(test) => put_require(alloc, out, test),
         Instr::Push => out.extend_from_slice(b"push"),
         Instr::Range(tag, condition, address, len) => put_range(

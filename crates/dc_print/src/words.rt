@@ -2,10 +2,10 @@
 ghost use Rattle.std.specs.Prelude.{◌≡◌, ◌++◌, ◌∷◌, OnOk};
 ghost use Rattle.std.specs.Fmt.{decimal};
 ghost use Rattle.dc_core.specs.View.{term_view};
-ghost use Rattle.dc_goto.specs.Text.{kind_word, operator_word, term_word};
+ghost use Rattle.dc_goto.specs.Text.{kind_word, lazy_word, operator_word, term_word, unary_word};
 
 use crate::decimal::{put_decimal, put_number};
-use dc_core::{BinOp, NumKind, Term};
+use dc_core::{BinOp, LazyOp, NumKind, Term, UnOp};
 use std::alloc::{AllocError, Global};
 
 /// Adds the word of a kind.
@@ -50,6 +50,26 @@ pub fn put_operator(out: &mut Vec<u8>, op: BinOp) -> Result<(), AllocError>
     }
 }
 
+/// Adds the word of an operator on one value.
+pub fn put_unary(out: &mut Vec<u8>, op: UnOp) -> Result<(), AllocError>
+    ensures { OnOk result (out.new.items ≡ out.old.items ++ unary_word op) }
+{
+    match op {
+        UnOp::Neg => out.extend_from_slice(b"neg"),
+        UnOp::Not => out.extend_from_slice(b"not"),
+    }
+}
+
+/// Adds the word of an operator that may leave its second operand unasked.
+pub fn put_lazy(out: &mut Vec<u8>, op: LazyOp) -> Result<(), AllocError>
+    ensures { OnOk result (out.new.items ≡ out.old.items ++ lazy_word op) }
+{
+    match op {
+        LazyOp::Both => out.extend_from_slice(b"and2"),
+        LazyOp::Either => out.extend_from_slice(b"or2"),
+    }
+}
+
 /// Adds an expression in its parentheses.
 #[cycle(put_term)]
 pub fn put_term(alloc: Global, out: &mut Vec<u8>, t: &Term) -> Result<(), AllocError>
@@ -83,10 +103,42 @@ pub fn put_term(alloc: Global, out: &mut Vec<u8>, t: &Term) -> Result<(), AllocE
             out.extend_from_slice(b")")?;
             Ok(())
         }
+        Term::Convert(to, from, value) => {
+            out.extend_from_slice(b"(conv")?;
+            put_spaced_kind(out, *to)?;
+            put_spaced_kind(out, *from)?;
+            put_spaced_term(alloc, out, value.get())?;
+            out.extend_from_slice(b")")?;
+            Ok(())
+        }
+        Term::Unary(op, kind, value) => {
+            out.extend_from_slice(b"(")?;
+            put_unary(out, *op)?;
+            put_spaced_kind(out, *kind)?;
+            put_spaced_term(alloc, out, value.get())?;
+            out.extend_from_slice(b")")?;
+            Ok(())
+        }
         Term::Binary(op, kind, a, b) => {
             out.extend_from_slice(b"(")?;
             put_operator(out, *op)?;
             put_spaced_kind(out, *kind)?;
+            put_spaced_term(alloc, out, a.get())?;
+            put_spaced_term(alloc, out, b.get())?;
+            out.extend_from_slice(b")")?;
+            Ok(())
+        }
+        Term::Lazy(op, a, b) => {
+            out.extend_from_slice(b"(")?;
+            put_lazy(out, *op)?;
+            put_spaced_term(alloc, out, a.get())?;
+            put_spaced_term(alloc, out, b.get())?;
+            out.extend_from_slice(b")")?;
+            Ok(())
+        }
+        Term::Choice(test, a, b) => {
+            out.extend_from_slice(b"(if")?;
+            put_spaced_term(alloc, out, test.get())?;
             put_spaced_term(alloc, out, a.get())?;
             put_spaced_term(alloc, out, b.get())?;
             out.extend_from_slice(b")")?;

@@ -9,7 +9,7 @@ use crate::cursor::Cursor;
 use crate::form::Form;
 use crate::numbers::constant_of;
 use crate::words::{kind_of, next_kind, next_number, operator_of};
-use dc_core::{BinOp, NumKind, Term};
+use dc_core::{BinOp, LazyOp, NumKind, Term, UnOp};
 use sqlite_items::Boxed;
 use std::alloc::{AllocError, Global};
 
@@ -64,7 +64,42 @@ fn load(alloc: Global, kind: NumKind, address: Term) -> Result<Term, AllocError>
     Ok(Term::Load(kind, address))
 }
 
-// An operator on two expressions.
+// A conversion.
+fn convert(alloc: Global, to: NumKind, from: NumKind, value: Term) -> Result<Term, AllocError>
+    ensures { IfOk result (λ t. term_view t ≡ plain.Convert to from (term_view value)) }
+{
+    let value = Boxed::new(alloc, value)?;
+    Ok(Term::Convert(to, from, value))
+}
+
+// An operator on one expression.
+fn unary(alloc: Global, operator: UnOp, kind: NumKind, value: Term) -> Result<Term, AllocError>
+    ensures { IfOk result (λ t. term_view t ≡ plain.Unary operator kind (term_view value)) }
+{
+    let value = Boxed::new(alloc, value)?;
+    Ok(Term::Unary(operator, kind, value))
+}
+
+// An operator on two expressions that may leave the second unasked.
+fn lazy(alloc: Global, operator: LazyOp, left: Term, right: Term) -> Result<Term, AllocError>
+    ensures { IfOk result (λ t. term_view t ≡ plain.Lazy operator (term_view left) (term_view right)) }
+{
+    let left = Boxed::new(alloc, left)?;
+    let right = Boxed::new(alloc, right)?;
+    Ok(Term::Lazy(operator, left, right))
+}
+
+// One of two expressions, by a test.
+fn choice(alloc: Global, test: Term, then: Term, otherwise: Term) -> Result<Term, AllocError>
+    ensures { IfOk result (λ t. term_view t ≡ plain.Choice (term_view test) (term_view then) (term_view otherwise)) }
+{
+    let test = Boxed::new(alloc, test)?;
+    let then = Boxed::new(alloc, then)?;
+    let otherwise = Boxed::new(alloc, otherwise)?;
+    Ok(Term::Choice(test, then, otherwise))
+}
+
+// An operator on two expressions of a kind.
 fn binary(
     alloc: Global,
     operator: BinOp,
@@ -89,6 +124,68 @@ fn read_load(alloc: Global, height: u64, cursor: &mut Cursor) -> Result<Term, Fo
     cursor.expect(b' ')?;
     let address = read_term(alloc, height, cursor)?;
     let term = load(alloc, kind, address)?;
+    Ok(term)
+}
+
+// A conversion, behind its first word, of an expression of at most that height.
+#[cycle(term)]
+fn read_convert(alloc: Global, height: u64, cursor: &mut Cursor) -> Result<Term, Form>
+    ensures found { IfOk result (λ t. read_three read_kind read_kind (term_read height) plain.Convert cursor.old ≡ got (term_view t) cursor.new) }
+    ensures none { IsErrOf result NoForm → read_three read_kind read_kind (term_read height) plain.Convert cursor.old ≡ None }
+{
+    let to = next_kind(cursor)?;
+    let from = next_kind(cursor)?;
+    cursor.expect(b' ')?;
+    let value = read_term(alloc, height, cursor)?;
+    let term = convert(alloc, to, from, value)?;
+    Ok(term)
+}
+
+// An operator on one expression of at most that height, behind its word.
+#[cycle(term)]
+fn read_unary(alloc: Global, height: u64, operator: UnOp, cursor: &mut Cursor) -> Result<Term, Form>
+    ensures found { IfOk result (λ t. read_two read_kind (term_read height) (plain.Unary operator) cursor.old ≡ got (term_view t) cursor.new) }
+    ensures none { IsErrOf result NoForm → read_two read_kind (term_read height) (plain.Unary operator) cursor.old ≡ None }
+{
+    let kind = next_kind(cursor)?;
+    cursor.expect(b' ')?;
+    let value = read_term(alloc, height, cursor)?;
+    let term = unary(alloc, operator, kind, value)?;
+    Ok(term)
+}
+
+// An operator that may leave its second expression unasked, behind its word, of expressions of at most that height.
+#[cycle(term)]
+fn read_lazy(
+    alloc: Global,
+    height: u64,
+    operator: LazyOp,
+    cursor: &mut Cursor,
+) -> Result<Term, Form>
+    ensures found { IfOk result (λ t. read_two (term_read height) (term_read height) (plain.Lazy operator) cursor.old ≡ got (term_view t) cursor.new) }
+    ensures none { IsErrOf result NoForm → read_two (term_read height) (term_read height) (plain.Lazy operator) cursor.old ≡ None }
+{
+    cursor.expect(b' ')?;
+    let left = read_term(alloc, height, cursor)?;
+    cursor.expect(b' ')?;
+    let right = read_term(alloc, height, cursor)?;
+    let term = lazy(alloc, operator, left, right)?;
+    Ok(term)
+}
+
+// One of two expressions by a test, behind its word, each of at most that height.
+#[cycle(term)]
+fn read_choice(alloc: Global, height: u64, cursor: &mut Cursor) -> Result<Term, Form>
+    ensures found { IfOk result (λ t. read_three (term_read height) (term_read height) (term_read height) plain.Choice cursor.old ≡ got (term_view t) cursor.new) }
+    ensures none { IsErrOf result NoForm → read_three (term_read height) (term_read height) (term_read height) plain.Choice cursor.old ≡ None }
+{
+    cursor.expect(b' ')?;
+    let test = read_term(alloc, height, cursor)?;
+    cursor.expect(b' ')?;
+    let then = read_term(alloc, height, cursor)?;
+    cursor.expect(b' ')?;
+    let otherwise = read_term(alloc, height, cursor)?;
+    let term = choice(alloc, test, then, otherwise)?;
     Ok(term)
 }
 
@@ -120,6 +217,24 @@ fn read_opened(alloc: Global, height: u64, word: &[u8], cursor: &mut Cursor) -> 
 {
     if word == b"load".as_slice() {
         return read_load(alloc, height, cursor);
+    }
+    if word == b"conv".as_slice() {
+        return read_convert(alloc, height, cursor);
+    }
+    if word == b"neg".as_slice() {
+        return read_unary(alloc, height, UnOp::Neg, cursor);
+    }
+    if word == b"not".as_slice() {
+        return read_unary(alloc, height, UnOp::Not, cursor);
+    }
+    if word == b"and2".as_slice() {
+        return read_lazy(alloc, height, LazyOp::Both, cursor);
+    }
+    if word == b"or2".as_slice() {
+        return read_lazy(alloc, height, LazyOp::Either, cursor);
+    }
+    if word == b"if".as_slice() {
+        return read_choice(alloc, height, cursor);
     }
     match operator_of(word) {
         Some(operator) => read_binary(alloc, height, operator, cursor),

@@ -4,7 +4,7 @@ ghost use Rattle.dc_core.specs.View.{term_view};
 ghost use Rattle.dc_text.specs.Words.{is_word};
 ghost use Rattle.dc_goto.specs.Lines.{is_check_name};
 ghost use Rattle.dc_goto.specs.Program as plain;
-ghost use Rattle.dc_goto.specs.Reading.{got, read_control as control_read, read_four, read_instr as instr_read, read_list, read_local as local_read, read_low, read_many, read_mark as mark_read, read_name, read_number, read_kind, read_objects as objects_read, read_one, read_return as return_read, read_three, read_two, read_word, register_of};
+ghost use Rattle.dc_goto.specs.Reading.{got, read_control as control_read, read_four, read_instr as instr_read, read_list, read_local as local_read, read_low, read_many, read_mark as mark_read, read_name, read_number, read_kind, read_objects as objects_read, read_one, read_return as return_read, read_test as test_read, read_three, read_two, read_word, register_of};
 ghost use Rattle.dc_goto.specs.View.{instr_view};
 ghost use Rattle.dc_scan.specs.declared.form.Form.TheVariants.{NoForm};
 
@@ -42,6 +42,16 @@ fn read_set(alloc: Global, cursor: &mut Cursor) -> Result<Instr, Form>
     Ok(Instr::Set(register, value))
 }
 
+// A value, or none, kept in a register.
+fn read_keep(alloc: Global, cursor: &mut Cursor) -> Result<Instr, Form>
+    ensures found { IfOk result (λ i. read_two read_number read_low plain.Keep cursor.old ≡ got (instr_view i) cursor.new) }
+    ensures none { IsErrOf result NoForm → read_two read_number read_low plain.Keep cursor.old ≡ None }
+{
+    let register = next_number(cursor)?;
+    let value = next_term(alloc, cursor)?;
+    Ok(Instr::Keep(register, value))
+}
+
 // A value written at an address.
 fn read_store(alloc: Global, cursor: &mut Cursor) -> Result<Instr, Form>
     ensures found { IfOk result (λ i. read_three read_kind read_low read_low plain.Store cursor.old ≡ got (instr_view i) cursor.new) }
@@ -73,6 +83,15 @@ fn read_local(cursor: &mut Cursor) -> Result<Instr, Form>
     let size = next_number(cursor)?;
     expect_word(cursor, b"zero")?;
     Ok(Instr::LocalZero(register, size))
+}
+
+// The locals beyond the first so many die.
+fn read_kill(cursor: &mut Cursor) -> Result<Instr, Form>
+    ensures found { IfOk result (λ i. read_one read_number plain.Kill cursor.old ≡ got (instr_view i) cursor.new) }
+    ensures none { IsErrOf result NoForm → read_one read_number plain.Kill cursor.old ≡ None }
+{
+    let locals = next_number(cursor)?;
+    Ok(Instr::Kill(locals))
 }
 
 // A value of a kind drawn into a register.
@@ -108,6 +127,25 @@ fn read_return(alloc: Global, cursor: &mut Cursor) -> Result<Instr, Form>
     Ok(Instr::Return(Some(value)))
 }
 
+// Another place is next.
+fn read_goto(cursor: &mut Cursor) -> Result<Instr, Form>
+    ensures found { IfOk result (λ i. read_one read_number plain.Goto cursor.old ≡ got (instr_view i) cursor.new) }
+    ensures none { IsErrOf result NoForm → read_one read_number plain.Goto cursor.old ≡ None }
+{
+    let place = next_number(cursor)?;
+    Ok(Instr::Goto(place))
+}
+
+// Another place is next where the value is 0.
+fn read_if_not(alloc: Global, cursor: &mut Cursor) -> Result<Instr, Form>
+    ensures found { IfOk result (λ i. read_two read_low read_number plain.IfNot cursor.old ≡ got (instr_view i) cursor.new) }
+    ensures none { IsErrOf result NoForm → read_two read_low read_number plain.IfNot cursor.old ≡ None }
+{
+    let test = next_term(alloc, cursor)?;
+    let place = next_number(cursor)?;
+    Ok(Instr::IfNot(test, place))
+}
+
 // Outside objects.
 fn read_objects(cursor: &mut Cursor) -> Result<Instr, Form>
     ensures found { IfOk result (λ i. objects_read cursor.old ≡ got (instr_view i) cursor.new) }
@@ -138,6 +176,25 @@ fn read_check(alloc: Global, cursor: &mut Cursor) -> Result<Instr, Form>
     Ok(Instr::Check(name, test))
 }
 
+// A test with a value, without which the name fails.
+fn read_assert(alloc: Global, cursor: &mut Cursor) -> Result<Instr, Form>
+    ensures found { IfOk result (λ i. read_two (read_name is_check_name) read_low plain.Assert cursor.old ≡ got (instr_view i) cursor.new) }
+    ensures none { IsErrOf result NoForm → read_two (read_name is_check_name) read_low plain.Assert cursor.old ≡ None }
+{
+    let name = next_check_name(alloc, cursor)?;
+    let test = next_term(alloc, cursor)?;
+    Ok(Instr::Assert(name, test))
+}
+
+// A test with a value, without which the run is blocked.
+fn read_assume(alloc: Global, cursor: &mut Cursor) -> Result<Instr, Form>
+    ensures found { IfOk result (λ i. read_one read_low plain.Assume cursor.old ≡ got (instr_view i) cursor.new) }
+    ensures none { IsErrOf result NoForm → read_one read_low plain.Assume cursor.old ≡ None }
+{
+    let test = next_term(alloc, cursor)?;
+    Ok(Instr::Assume(test))
+}
+
 // A test without which the run is blocked.
 fn read_require(alloc: Global, cursor: &mut Cursor) -> Result<Instr, Form>
     ensures found { IfOk result (λ i. read_one read_low plain.Require cursor.old ≡ got (instr_view i) cursor.new) }
@@ -159,17 +216,13 @@ fn read_range(alloc: Global, cursor: &mut Cursor) -> Result<Instr, Form>
     Ok(Instr::Range(tag, condition, address, len))
 }
 
-// An instruction on checks and sets, behind its first word.
+// An instruction on write sets, behind its first word.
 fn read_mark(alloc: Global, word: &[u8], cursor: &mut Cursor) -> Result<Instr, Form>
     ensures found { IfOk result (λ i. mark_read word.now cursor.old ≡ got (instr_view i) cursor.new) }
     ensures none { IsErrOf result NoForm → mark_read word.now cursor.old ≡ None }
 {
     if word == b"covers".as_slice() {
         read_covers(alloc, cursor)
-    } else if word == b"check".as_slice() {
-        read_check(alloc, cursor)
-    } else if word == b"require".as_slice() {
-        read_require(alloc, cursor)
     } else if word == b"range".as_slice() {
         read_range(alloc, cursor)
     } else if word == b"seen".as_slice() {
@@ -183,7 +236,29 @@ fn read_mark(alloc: Global, word: &[u8], cursor: &mut Cursor) -> Result<Instr, F
     }
 }
 
-// An instruction on calls and objects, or one on checks and sets, behind its first word.
+// A test, one on the outside, or one on write sets, behind its first word.
+fn read_test(alloc: Global, word: &[u8], cursor: &mut Cursor) -> Result<Instr, Form>
+    ensures found { IfOk result (λ i. test_read word.now cursor.old ≡ got (instr_view i) cursor.new) }
+    ensures none { IsErrOf result NoForm → test_read word.now cursor.old ≡ None }
+{
+    if word == b"assert".as_slice() {
+        read_assert(alloc, cursor)
+    } else if word == b"check".as_slice() {
+        read_check(alloc, cursor)
+    } else if word == b"assume".as_slice() {
+        read_assume(alloc, cursor)
+    } else if word == b"require".as_slice() {
+        read_require(alloc, cursor)
+    } else if word == b"statics".as_slice() {
+        Ok(Instr::Statics)
+    } else if word == b"objects".as_slice() {
+        read_objects(cursor)
+    } else {
+        read_mark(alloc, word, cursor)
+    }
+}
+
+// An instruction that says where the run goes on, or one of tests and sets, behind its first word.
 fn read_control(alloc: Global, word: &[u8], cursor: &mut Cursor) -> Result<Instr, Form>
     ensures found { IfOk result (λ i. control_read word.now cursor.old ≡ got (instr_view i) cursor.new) }
     ensures none { IsErrOf result NoForm → control_read word.now cursor.old ≡ None }
@@ -194,12 +269,12 @@ fn read_control(alloc: Global, word: &[u8], cursor: &mut Cursor) -> Result<Instr
         read_return(alloc, cursor)
     } else if word == b"trap".as_slice() {
         Ok(Instr::Trap)
-    } else if word == b"statics".as_slice() {
-        Ok(Instr::Statics)
-    } else if word == b"objects".as_slice() {
-        read_objects(cursor)
+    } else if word == b"goto".as_slice() {
+        read_goto(cursor)
+    } else if word == b"ifnot".as_slice() {
+        read_if_not(alloc, cursor)
     } else {
-        read_mark(alloc, word, cursor)
+        read_test(alloc, word, cursor)
     }
 }
 
@@ -210,14 +285,18 @@ pub fn read_instr(alloc: Global, word: &[u8], cursor: &mut Cursor) -> Result<Ins
 {
     if word == b"set".as_slice() {
         read_set(alloc, cursor)
+    } else if word == b"keep".as_slice() {
+        read_keep(alloc, cursor)
+    } else if word == b"draw".as_slice() {
+        read_draw(cursor)
     } else if word == b"store".as_slice() {
         read_store(alloc, cursor)
     } else if word == b"init".as_slice() {
         read_init(alloc, cursor)
     } else if word == b"local".as_slice() {
         read_local(cursor)
-    } else if word == b"draw".as_slice() {
-        read_draw(cursor)
+    } else if word == b"kill".as_slice() {
+        read_kill(cursor)
     } else {
         read_control(alloc, word, cursor)
     }

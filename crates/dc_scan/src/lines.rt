@@ -1,5 +1,5 @@
 // Lines of a text.
-ghost use Rattle.std.specs.Prelude.{◌≡◌, ◌++◌, ◌∷◌, ℕ, IfOk, IsErrOf, OnOk, None, codes, length, map, []};
+ghost use Rattle.std.specs.Prelude.{◌≡◌, IsOk, ◌++◌, ◌∷◌, ℕ, IfOk, IsErrOf, OnOk, None, codes, length, map, []};
 ghost use Rattle.dc_text.specs.Words.{is_word};
 ghost use Rattle.dc_goto.specs.Lines.{AreLines, FirstFormless, Instruction, Version, is_body_name};
 ghost use Rattle.dc_goto.specs.Reading.{function_line, got, literal, opening_line, read_form as form_read, read_instr as instr_read, read_kind, read_line as line_read, read_list, read_many, read_name, read_number, read_one, read_three, read_two, read_word, result_of, static_line_of, then_read};
@@ -129,6 +129,15 @@ fn read_form(alloc: Global, word: &[u8], cursor: &mut Cursor) -> Result<Line, Fo
     }
 }
 
+// What was read, where what had to follow it was there.
+fn followed<T: Drop>(read: T, end: Result<(), Form>) -> Result<T, Form>
+    ensures found { IfOk result (λ value. (value ≡ read) × IsOk end) }
+    ensures none { IsErrOf result NoForm → IsErrOf end NoForm }
+{
+    end?;
+    Ok(read)
+}
+
 // A line form with its newline.
 fn read_line(alloc: Global, cursor: &mut Cursor) -> Result<Line, Form>
     ensures found { IfOk result (λ line. line_read cursor.old ≡ got (line_view line) cursor.new) }
@@ -136,8 +145,7 @@ fn read_line(alloc: Global, cursor: &mut Cursor) -> Result<Line, Form>
 {
     let word = cursor.word();
     let line = read_form(alloc, word, cursor)?;
-    cursor.expect(b'\n')?;
-    Ok(line)
+    followed(line, cursor.expect(b'\n'))
 }
 
 // One more line behind the others.

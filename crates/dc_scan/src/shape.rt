@@ -1,9 +1,9 @@
 // The rules for the lines of a text.
-ghost use Rattle.std.specs.Prelude.{◌≡◌, ◌++◌, [], IfOk, OnOk, length, map, None, Some};
+ghost use Rattle.std.specs.Prelude.{◌≡◌, ◌++◌, [], IfOk, OnOk, drop, length, map, None, Some};
 ghost use Rattle.std.specs.Option.{option_map};
-ghost use Rattle.dc_goto.specs.Shape.{first_misshapen as misshapen, function_in, goes_on as instr_goes_on, is_behind as behind_is, is_end as end_is, is_start as start_is, may_act_in as acts_in, may_follow as follows, may_name as names_rule, may_open as opens, name_in, params_of as params_in, sig_of};
+ghost use Rattle.dc_goto.specs.Shape.{first_misshapen as misshapen, code_front, function_in, goes_on as instr_goes_on, is_behind as behind_is, is_end as end_is, is_start as start_is, may_act_in as acts_in, may_follow as follows, may_name as names_rule, may_open as opens, name_in, params_of as params_in, sig_of};
 ghost use Rattle.dc_goto.specs.View.{instr_view};
-ghost use Rattle.dc_scan.specs.Judging.{IsNewIn, head_behind, keeps_among, may_say_among, whole_among};
+ghost use Rattle.dc_scan.specs.Judging.{IsNewIn, count_behind, head_behind, keeps_among, may_say_among, whole_among};
 ghost use Rattle.dc_scan.specs.View.{head_view, line_view};
 
 use crate::functions::Functions;
@@ -18,40 +18,59 @@ use std::alloc::{AllocError, Global};
 // Functions and variables together are at most that many.
 const NAMES_LIMIT: usize = 32767;
 
-// What stands before a line: the functions, the names of functions and variables, the last body, and the line in front.
+// What stands before a line: the functions, the names of functions and variables, the last body, how many instructions that
+// has, and the line in front.
 #[derive(Drop)]
 struct Front<'a> {
     functions: Functions<'a>,
     names: Names<'a>,
     head: Option<&'a BodyHead>,
+    count: u64,
     line: Option<&'a Line>,
 }
 
+// How many instructions stand in lines from a place on, before any other line.
+fn code_from(lines: &[Line], from: usize) -> u64
+    ensures { result ≡ code_front (drop from (map line_view lines.now)) }
+{
+    let mut end = from;
+    'each: while goes_on(at(lines, end)) {
+        end += 1;
+    }
+    (end - from) as u64
+}
+
 impl<'a> Front<'a> {
-    // Before the first line.
-    fn new(alloc: Global) -> Front<'a>
+    // Before these lines.
+    fn new(alloc: Global, lines: &[Line]) -> Front<'a>
         ensures functions { result.functions ≡ [] }
         ensures names { result.names ≡ [] }
         ensures head { result.head ≡ None }
+        ensures count { result.count ≡ code_front (drop 0 (map line_view lines.now)) }
         ensures line { result.line ≡ None }
     {
         Front {
             functions: Functions::new(alloc),
             names: Names::new(alloc),
             head: None,
+            count: code_from(lines, 0),
             line: None,
         }
     }
 
-    // Behind one more line.
-    fn push(&mut self, line: &'a Line) -> Result<(), AllocError>
+    // Behind one more line, with those from the next place on behind it.
+    fn push(&mut self, line: &'a Line, lines: &[Line], next: usize) -> Result<(), AllocError>
         requires { IsNewIn self.old.functions self.old.names (line_view line.now) }
         ensures functions { OnOk result (self.new.functions ≡ self.old.functions ++ function_in (line_view line.now)) }
         ensures names { OnOk result (self.new.names ≡ self.old.names ++ name_in (line_view line.now)) }
         ensures head { OnOk result (option_map (λ head. head_view head.now) self.new.head ≡ head_behind (option_map (λ head. head_view head.now) self.old.head) (line_view line.now)) }
+        ensures count { OnOk result (self.new.count ≡ count_behind self.old.count (line_view line.now) (drop next (map line_view lines.now))) }
         ensures line { OnOk result (option_map (λ line. line_view line.now) self.new.line ≡ Some (line_view line.now)) }
     {
         self.line = Some(line);
+        if !matches!(line, Line::Instruction(_)) {
+            self.count = code_from(lines, next);
+        }
         match line {
             Line::Function(sig) => {
                 self.functions.push(sig)?;
@@ -167,17 +186,23 @@ fn may_name<'a>(names: &Names<'a>, name: &'a Name) -> bool
 
 // Whether an instruction keeps the rules in the last body.
 fn may_act_in<'a>(front: &Front<'a>, instr: &'a Instr) -> bool
-    ensures { result ≡ acts_in front.now.functions (length front.now.names) (option_map (λ head. head_view head.now) front.now.head) (instr_view instr.now) }
+    ensures { result ≡ acts_in front.now.functions (length front.now.names) (option_map (λ head. head_view head.now) front.now.head) front.now.count (instr_view instr.now) }
 {
     match front.head {
-        Some(head) => may_act(&front.functions, front.names.len() as u64, head, instr),
+        Some(head) => may_act(
+            &front.functions,
+            front.names.len() as u64,
+            head,
+            front.count,
+            instr,
+        ),
         None => false,
     }
 }
 
 // Whether a line may say that, between what stands before it and the line behind it.
 fn may_say<'a>(front: &Front<'a>, line: &'a Line, next: Option<&'a Line>) -> bool
-    ensures { result ≡ may_say_among front.now.functions front.now.names (option_map (λ head. head_view head.now) front.now.head) (line_view line.now) (option_map (λ line. line_view line.now) next.entry) }
+    ensures { result ≡ may_say_among front.now.functions front.now.names (option_map (λ head. head_view head.now) front.now.head) front.now.count (line_view line.now) (option_map (λ line. line_view line.now) next.entry) }
 {
     match line {
         Line::Version => true,
@@ -191,7 +216,7 @@ fn may_say<'a>(front: &Front<'a>, line: &'a Line, next: Option<&'a Line>) -> boo
 
 // Whether a line keeps the rules, between what stands before it and the line behind it.
 fn keeps<'a>(front: &Front<'a>, line: &'a Line, next: Option<&'a Line>) -> bool
-    ensures { result ≡ keeps_among front.now.functions front.now.names (option_map (λ head. head_view head.now) front.now.head) (option_map (λ line. line_view line.now) front.now.line) (line_view line.now) (option_map (λ line. line_view line.now) next.entry) }
+    ensures { result ≡ keeps_among front.now.functions front.now.names (option_map (λ head. head_view head.now) front.now.head) front.now.count (option_map (λ line. line_view line.now) front.now.line) (line_view line.now) (option_map (λ line. line_view line.now) next.entry) }
 {
     may_follow(front.line, line) && may_say(front, line, next)
 }
@@ -200,12 +225,12 @@ fn keeps<'a>(front: &Front<'a>, line: &'a Line, next: Option<&'a Line>) -> bool
 pub fn first_misshapen(alloc: Global, lines: &[Line]) -> Result<Option<u64>, AllocError>
     ensures { IfOk result (λ number. number ≡ misshapen (map line_view lines.now)) }
 {
-    let mut front = Front::new(alloc);
+    let mut front = Front::new(alloc, lines);
     for (i, line) in lines.iter().enumerate() {
         if !keeps(&front, line, at(lines, i + 1)) {
             return Ok(Some(i as u64 + 1));
         }
-        front.push(line)?;
+        front.push(line, lines, i + 1)?;
     }
     if front.is_whole() {
         Ok(None)

@@ -7,7 +7,7 @@ struct Case {
     answer: Answer,
 }
 
-const CASES: [Case; 172] = [
+const CASES: [Case; 236] = [
     Case {
         text: "dcc 1 \n",
         answer: Answer::Line(1),
@@ -294,7 +294,7 @@ const CASES: [Case; 172] = [
     },
     Case {
         text: "dcc 1\nbody .start 0 1\ngoto 0\nreturn\nend\n",
-        answer: Answer::Line(3),
+        answer: Answer::Scanned,
     },
     Case {
         text: "dcc 1\nbody .start 0 1\nseen 1\nreturn\nend\n",
@@ -694,6 +694,262 @@ const CASES: [Case; 172] = [
     },
     Case {
         text: "dcc 1\nbody .start 0 0\nreturn\nend\n",
+        answer: Answer::Scanned,
+    },
+    Case {
+        text: "dcc 1\nbody .start 0 1\ngoto 0\nend\n",
+        answer: Answer::Scanned,
+    },
+    Case {
+        text: "dcc 1\nbody .start 0 1\ngoto 1\nend\n",
+        answer: Answer::Shape(3),
+    },
+    Case {
+        text: "dcc 1\nbody .start 0 1\ngoto 00\nend\n",
+        answer: Answer::Line(3),
+    },
+    Case {
+        text: "dcc 1\nbody .start 0 1\ngoto 18446744073709551615\nend\n",
+        answer: Answer::Shape(3),
+    },
+    Case {
+        text: "dcc 1\nbody .start 0 1\ngoto 18446744073709551616\nend\n",
+        answer: Answer::Line(3),
+    },
+    Case {
+        text: "dcc 1\nbody .start 0 1\ngoto -1\nend\n",
+        answer: Answer::Line(3),
+    },
+    Case {
+        text: "dcc 1\nbody .start 0 1\ngoto\nend\n",
+        answer: Answer::Line(3),
+    },
+    Case {
+        text: "dcc 1\nbody .start 0 1\nifnot (reg 0) 1\nreturn\nend\n",
+        answer: Answer::Scanned,
+    },
+    Case {
+        text: "dcc 1\nbody .start 0 1\nifnot (reg 0) 0\nreturn\nend\n",
+        answer: Answer::Scanned,
+    },
+    Case {
+        text: "dcc 1\nbody .start 0 1\nifnot (reg 0) 2\nreturn\nend\n",
+        answer: Answer::Shape(3),
+    },
+    Case {
+        text: "dcc 1\nbody .start 0 1\nifnot (reg 1) 1\nreturn\nend\n",
+        answer: Answer::Shape(3),
+    },
+    Case {
+        text: "dcc 1\nbody .start 0 1\nifnot (reg 0)\nreturn\nend\n",
+        answer: Answer::Line(3),
+    },
+    Case {
+        text: "dcc 1\nbody .start 0 1\nifnot 1 (reg 0)\nreturn\nend\n",
+        answer: Answer::Line(3),
+    },
+    Case {
+        text: "dcc 1\nbody .start 0 1\nifnot (reg 0) 0\nend\n",
+        answer: Answer::Shape(3),
+    },
+    Case {
+        text: "dcc 1\nfunction f void\nbody f 0 0\ngoto 2\nreturn\nend\nbody .start 0 0\nset\n",
+        answer: Answer::Line(8),
+    },
+    Case {
+        text: "dcc 1\nfunction f void\nbody f 0 0\ngoto 2\nreturn\nend\nbody .start 0 0\npush\npop\nreturn\nend\n",
+        answer: Answer::Shape(4),
+    },
+    Case {
+        text: "dcc 1\nfunction f void\nbody f 0 0\ngoto 1\nreturn\nend\nbody .start 0 0\npush\ngoto 2\nreturn\nend\n",
+        answer: Answer::Scanned,
+    },
+    Case {
+        text: "dcc 1\nfunction f void\nbody f 0 0\ngoto 1\nreturn\nend\nbody .start 0 0\npush\ngoto 3\nreturn\nend\n",
+        answer: Answer::Shape(9),
+    },
+    Case {
+        text: "dcc 1\nbody .start 0 1\npush\ngoto 3\npop\n",
+        answer: Answer::Shape(4),
+    },
+    Case {
+        text: "dcc 1\nbody .start 0 1\npush\ngoto 2\npop\n",
+        answer: Answer::Shape(5),
+    },
+    Case {
+        text: "dcc 1\nbody .start 0 1\npush\ngoto 1\n",
+        answer: Answer::Shape(5),
+    },
+    Case {
+        text: "dcc 1\nbody .start 0 1\nkeep 0 (reg 0)\nreturn\nend\n",
+        answer: Answer::Scanned,
+    },
+    Case {
+        text: "dcc 1\nbody .start 0 1\nkeep 1 (reg 0)\nreturn\nend\n",
+        answer: Answer::Shape(3),
+    },
+    Case {
+        text: "dcc 1\nbody .start 0 1\nkeep 0 (reg 1)\nreturn\nend\n",
+        answer: Answer::Shape(3),
+    },
+    Case {
+        text: "dcc 1\nbody .start 0 1\nkeep - (reg 0)\nreturn\nend\n",
+        answer: Answer::Line(3),
+    },
+    Case {
+        text: "dcc 1\nbody .start 0 1\nkill 0\nreturn\nend\n",
+        answer: Answer::Scanned,
+    },
+    Case {
+        text: "dcc 1\nbody .start 0 1\nkill 18446744073709551615\nreturn\nend\n",
+        answer: Answer::Scanned,
+    },
+    Case {
+        text: "dcc 1\nbody .start 0 1\nkill 18446744073709551616\nreturn\nend\n",
+        answer: Answer::Line(3),
+    },
+    Case {
+        text: "dcc 1\nbody .start 0 1\nkill\nreturn\nend\n",
+        answer: Answer::Line(3),
+    },
+    Case {
+        text: "dcc 1\nbody .start 0 1\nkill 0 0\nreturn\nend\n",
+        answer: Answer::Line(3),
+    },
+    Case {
+        text: "dcc 1\nbody .start 0 1\nassert a.b (reg 0)\nreturn\nend\n",
+        answer: Answer::Scanned,
+    },
+    Case {
+        text: "dcc 1\nbody .start 0 1\nassert a.b (reg 1)\nreturn\nend\n",
+        answer: Answer::Shape(3),
+    },
+    Case {
+        text: "dcc 1\nbody .start 0 1\nassert (reg 0)\nreturn\nend\n",
+        answer: Answer::Line(3),
+    },
+    Case {
+        text: "dcc 1\nbody .start 0 1\nassert a-b (reg 0)\nreturn\nend\n",
+        answer: Answer::Line(3),
+    },
+    Case {
+        text: "dcc 1\nbody .start 0 1\nassume (reg 0)\nreturn\nend\n",
+        answer: Answer::Scanned,
+    },
+    Case {
+        text: "dcc 1\nbody .start 0 1\nassume (reg 1)\nreturn\nend\n",
+        answer: Answer::Shape(3),
+    },
+    Case {
+        text: "dcc 1\nbody .start 0 1\nassume a (reg 0)\nreturn\nend\n",
+        answer: Answer::Line(3),
+    },
+    Case {
+        text: "dcc 1\nbody .start 0 1\nassume\nreturn\nend\n",
+        answer: Answer::Line(3),
+    },
+    Case {
+        text: "dcc 1\nbody .start 0 1\nset 0 (conv u8 s32 (reg 0))\nreturn\nend\n",
+        answer: Answer::Scanned,
+    },
+    Case {
+        text: "dcc 1\nbody .start 0 1\nset 0 (conv ptr bool (reg 0))\nreturn\nend\n",
+        answer: Answer::Scanned,
+    },
+    Case {
+        text: "dcc 1\nbody .start 0 1\nset 0 (conv u8 (reg 0))\nreturn\nend\n",
+        answer: Answer::Line(3),
+    },
+    Case {
+        text: "dcc 1\nbody .start 0 1\nset 0 (conv u8 s32 (reg 1))\nreturn\nend\n",
+        answer: Answer::Shape(3),
+    },
+    Case {
+        text: "dcc 1\nbody .start 0 1\nset 0 (conv u8 s33 (reg 0))\nreturn\nend\n",
+        answer: Answer::Line(3),
+    },
+    Case {
+        text: "dcc 1\nbody .start 0 1\nset 0 (neg s8 (reg 0))\nreturn\nend\n",
+        answer: Answer::Scanned,
+    },
+    Case {
+        text: "dcc 1\nbody .start 0 1\nset 0 (neg ptr (reg 0))\nreturn\nend\n",
+        answer: Answer::Shape(3),
+    },
+    Case {
+        text: "dcc 1\nbody .start 0 1\nset 0 (neg s8 (reg 1))\nreturn\nend\n",
+        answer: Answer::Shape(3),
+    },
+    Case {
+        text: "dcc 1\nbody .start 0 1\nset 0 (not u64 (reg 0))\nreturn\nend\n",
+        answer: Answer::Scanned,
+    },
+    Case {
+        text: "dcc 1\nbody .start 0 1\nset 0 (not ptr (reg 0))\nreturn\nend\n",
+        answer: Answer::Shape(3),
+    },
+    Case {
+        text: "dcc 1\nbody .start 0 1\nset 0 (not (reg 0))\nreturn\nend\n",
+        answer: Answer::Line(3),
+    },
+    Case {
+        text: "dcc 1\nbody .start 0 1\nset 0 (and2 (reg 0) (s32 1))\nreturn\nend\n",
+        answer: Answer::Scanned,
+    },
+    Case {
+        text: "dcc 1\nbody .start 0 1\nset 0 (and2 (reg 0) (reg 1))\nreturn\nend\n",
+        answer: Answer::Shape(3),
+    },
+    Case {
+        text: "dcc 1\nbody .start 0 1\nset 0 (and2 s32 (reg 0) (s32 1))\nreturn\nend\n",
+        answer: Answer::Line(3),
+    },
+    Case {
+        text: "dcc 1\nbody .start 0 1\nset 0 (and2 (reg 0))\nreturn\nend\n",
+        answer: Answer::Line(3),
+    },
+    Case {
+        text: "dcc 1\nbody .start 0 1\nset 0 (or2 (s32 0) (reg 0))\nreturn\nend\n",
+        answer: Answer::Scanned,
+    },
+    Case {
+        text: "dcc 1\nbody .start 0 1\nset 0 (or2 (reg 1) (reg 0))\nreturn\nend\n",
+        answer: Answer::Shape(3),
+    },
+    Case {
+        text: "dcc 1\nbody .start 0 1\nset 0 (or2  (reg 0) (reg 0))\nreturn\nend\n",
+        answer: Answer::Line(3),
+    },
+    Case {
+        text: "dcc 1\nbody .start 0 1\nset 0 (if (reg 0) (s32 1) (s32 2))\nreturn\nend\n",
+        answer: Answer::Scanned,
+    },
+    Case {
+        text: "dcc 1\nbody .start 0 1\nset 0 (if (reg 0) (s32 1) (reg 1))\nreturn\nend\n",
+        answer: Answer::Shape(3),
+    },
+    Case {
+        text: "dcc 1\nbody .start 0 1\nset 0 (if (reg 1) (s32 1) (s32 2))\nreturn\nend\n",
+        answer: Answer::Shape(3),
+    },
+    Case {
+        text: "dcc 1\nbody .start 0 1\nset 0 (if (reg 0) (s32 1))\nreturn\nend\n",
+        answer: Answer::Line(3),
+    },
+    Case {
+        text: "dcc 1\nbody .start 0 1\nset 0 (add ptr (reg 0) (reg 0))\nreturn\nend\n",
+        answer: Answer::Shape(3),
+    },
+    Case {
+        text: "dcc 1\nbody .start 0 1\nset 0 (xor ptr (reg 0) (reg 0))\nreturn\nend\n",
+        answer: Answer::Shape(3),
+    },
+    Case {
+        text: "dcc 1\nbody .start 0 1\nset 0 (shl ptr (reg 0) (reg 0))\nreturn\nend\n",
+        answer: Answer::Shape(3),
+    },
+    Case {
+        text: "dcc 1\nbody .start 0 1\nset 0 (lt ptr (reg 0) (reg 0))\nreturn\nend\n",
         answer: Answer::Scanned,
     },
 ];

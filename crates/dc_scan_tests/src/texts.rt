@@ -63,7 +63,26 @@ return (ne ptr (load ptr (obj 1)) (ptr 0))
 end
 ";
 
-const TEXTS: [&str; 5] = [EMPTY_FUNCTION, SET, RESULT, EDGES, KINDS];
+// Jumps in two bodies, tests, what is kept, locals that die, and expressions that convert, negate and choose.
+const JUMPS: &str = "dcc 1
+function f s32 s32
+body f 1 2
+ifnot (and2 (reg 0) (or2 (s32 0) (lt s32 (reg 0) (s32 9)))) 3
+set 0 (if (reg 0) (neg s32 (reg 0)) (not u8 (conv u8 s32 (reg 0))))
+goto 0
+return (reg 0)
+end
+body .start 0 1
+keep 0 (load s32 (ptr 0))
+assume (eq s32 (s32 1) (s32 1))
+assert f.assertion.1 (s32 1)
+kill 18446744073709551615
+call 0 f (s32 1)
+goto 4
+end
+";
+
+const TEXTS: [&str; 6] = [EMPTY_FUNCTION, SET, RESULT, EDGES, KINDS, JUMPS];
 
 #[test]
 fn texts(rt: HostRuntime) -> Result<(), Fail> {

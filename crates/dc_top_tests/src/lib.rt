@@ -10,6 +10,8 @@ mod forms;
 #[cfg(test)]
 mod harness;
 #[cfg(test)]
+mod instructions;
+#[cfg(test)]
 mod real_outside;
 #[cfg(test)]
 mod replays;

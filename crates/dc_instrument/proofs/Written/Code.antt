@@ -46,55 +46,55 @@ ends_append (i ∷ before) code h = ends_cons i (before ++ code) (ends_append be
 
 -- Instructions ------------------------------------------------------------------------------------------------------
 
--- an instruction may stand in a line, and in the body
+-- an instruction may stand in a line, and in the body, however many instructions that has
 pub record MayAct (functions : List Sig) (objects : ℕ) (head : BodyHead) (i : Instr) : Type 0 where
   pub written : IsInstr i
-  pub acts : may_act functions objects head i ≡ true
+  pub acts : (count : ℕ) → may_act functions objects head count i ≡ true
 
 abbrev pub AllAct : List Sig → ℕ → BodyHead → List Instr → Type 0
 AllAct functions objects head code = AllByRecursion (MayAct functions objects head) code
 
-pub plain_act : (functions : List Sig) (objects : ℕ) (head : BodyHead) (i : Instr) → IsInstr i → may_act functions objects head i ≡ true → MayAct functions objects head i
+pub plain_act : (functions : List Sig) (objects : ℕ) (head : BodyHead) (i : Instr) → IsInstr i → ((count : ℕ) → may_act functions objects head count i ≡ true) → MayAct functions objects head i
 plain_act functions objects head i w a = record { written = w; acts = a }
 
 module _ (functions : List Sig) (objects : ℕ) (head : BodyHead) where
   set_acts : (r : ℕ) (e : Term) → r < head.regs → head.regs < 2 ^ 64 → MayStand objects head.regs e → MayAct functions objects head (Set r e)
   set_acts r e room small h =
-      plain_act functions objects head (Set r e) (omega arith, h.written) (both_true (nat_lt r head.regs) (may_mean objects head.regs e) (below r head.regs room) h.means)
+      plain_act functions objects head (Set r e) (omega arith, h.written) (λ count. both_true (nat_lt r head.regs) (may_mean objects head.regs e) (below r head.regs room) h.means)
 
   store_acts : (kind : NumKind) (a e : Term) → MayStand objects head.regs a → MayStand objects head.regs e → MayAct functions objects head (Store kind a e)
   store_acts kind a e h k =
-      plain_act functions objects head (Store kind a e) (h.written, k.written) (both_true (may_mean objects head.regs a) (may_mean objects head.regs e) h.means k.means)
+      plain_act functions objects head (Store kind a e) (h.written, k.written) (λ count. both_true (may_mean objects head.regs a) (may_mean objects head.regs e) h.means k.means)
 
   init_acts : (kind : NumKind) (a e : Term) → MayStand objects head.regs a → MayStand objects head.regs e → MayAct functions objects head (Init kind a e)
   init_acts kind a e h k =
-      plain_act functions objects head (Init kind a e) (h.written, k.written) (both_true (may_mean objects head.regs a) (may_mean objects head.regs e) h.means k.means)
+      plain_act functions objects head (Init kind a e) (h.written, k.written) (λ count. both_true (may_mean objects head.regs a) (may_mean objects head.regs e) h.means k.means)
 
   local_acts : (r : ℕ) → r < head.regs → head.regs < 2 ^ 64 → MayAct functions objects head (LocalZero r 4)
   local_acts r room small =
-      plain_act functions objects head (LocalZero r 4) (omega arith, omega arith) (both_true (nat_lt r head.regs) true (below r head.regs room) refl)
+      plain_act functions objects head (LocalZero r 4) (omega arith, omega arith) (λ count. both_true (nat_lt r head.regs) true (below r head.regs room) refl)
 
   covers_acts : (name : List ℕ) (site : ℕ) (a : Term) → is_word name ≡ true → site < 10 ^ 64 → MayStand objects head.regs a → MayAct functions objects head (Covers (assigns_name name site) a int_len)
   covers_acts name site a w small h =
       let n = len_stands objects head.regs in
       plain_act functions objects head (Covers (assigns_name name site) a int_len) (assigns_check name site w small, h.written, n.written)
-      (both_true (may_mean objects head.regs a) (may_mean objects head.regs int_len) h.means n.means)
+      (λ count. both_true (may_mean objects head.regs a) (may_mean objects head.regs int_len) h.means n.means)
 
   return_acts : (e : Term) → may_return (shape.sig_of functions head.name) (Some e) ≡ true → MayStand objects head.regs e → MayAct functions objects head (Return (Some e))
   return_acts e r h =
-      plain_act functions objects head (Return (Some e)) h.written (both_true (may_return (shape.sig_of functions head.name) (Some e)) (may_mean objects head.regs e) r h.means)
+      plain_act functions objects head (Return (Some e)) h.written (λ count. both_true (may_return (shape.sig_of functions head.name) (Some e)) (may_mean objects head.regs e) r h.means)
 
   return_none_acts : may_return (shape.sig_of functions head.name) None ≡ true → MayAct functions objects head (Return None)
-  return_none_acts r = plain_act functions objects head (Return None) tt (both_true (may_return (shape.sig_of functions head.name) None) true r refl)
+  return_none_acts r = plain_act functions objects head (Return None) tt (λ count. both_true (may_return (shape.sig_of functions head.name) None) true r refl)
 
   range_acts : (k : ℕ) (a : Term) → k < 2 ^ 64 → MayStand objects head.regs a → MayAct functions objects head (Range k (Constant S32 (pos 1)) a int_len)
   range_acts k a small h =
       let one = one_stands objects head.regs in
       let n = len_stands objects head.regs in
-      plain_act functions objects head (Range k (Constant S32 (pos 1)) a int_len) (small, one.written, h.written, n.written) (rw h.means refl)
+      plain_act functions objects head (Range k (Constant S32 (pos 1)) a int_len) (small, one.written, h.written, n.written) (λ count. rw h.means refl)
 
   check_acts : (name : List ℕ) (k : ℕ) (e : Term) → is_word name ≡ true → k < 10 ^ 64 → MayStand objects head.regs e → MayAct functions objects head (Check (postcondition_name name k) e)
-  check_acts name k e w small h = plain_act functions objects head (Check (postcondition_name name k) e) (postcondition_check name k w small, h.written) h.means
+  check_acts name k e w small h = plain_act functions objects head (Check (postcondition_name name k) e) (postcondition_check name k w small, h.written) (λ count. h.means)
 
   -- Parameters' objects
 
@@ -123,11 +123,11 @@ module _ (functions : List Sig) (objects : ℕ) (head : BodyHead) where
   draws_act : (i n : ℕ) → i + n ≤ head.regs → head.regs < 2 ^ 64 → AllAct functions objects head (draws_code i n)
   draws_act i zero room small = tt
   draws_act i (suc n) room small =
-      (plain_act functions objects head (Draw i S32) (omega arith) (below i head.regs (omega arith)), draws_act (suc i) n (omega arith) small)
+      (plain_act functions objects head (Draw i S32) (omega arith) (λ count. below i head.regs (omega arith)), draws_act (suc i) n (omega arith) small)
 
   group_acts : (tests : List Instr) → AllAct functions objects head tests → AllAct functions objects head (group_code tests)
   group_acts [] h = tt
-  group_acts (test ∷ tests) h = (plain_act functions objects head Seen tt refl, h)
+  group_acts (test ∷ tests) h = (plain_act functions objects head Seen tt (λ count. refl), h)
 
 pub arguments_count : (i n : ℕ) → length (argument_terms i n) ≡ n
 arguments_count i zero = refl
@@ -180,7 +180,7 @@ module _ (p : Program) (few : length p.statics ≤ 32766) (word : is_word p.func
   require_acts at [] f all low = tt
   require_acts at (e ∷ es) f all low =
       let t = term_stands p false at head.regs e few f (All-head (Stands p false) e es all) low.0 in
-      (plain_act functions objects head (Require (term_of at e)) t.written t.means, require_acts at es f (All-tail (Stands p false) e es all) low.1)
+      (plain_act functions objects head (Require (term_of at e)) t.written (λ count. t.means), require_acts at es f (All-tail (Stands p false) e es all) low.1)
 
   ranges_act : (at : Places) (k : ℕ) (targets : List Expr) → k + length targets < 2 ^ 64 → All (IsTarget p) targets → AllAct functions objects head (ranges_code at k targets)
   ranges_act at k [] room all = tt
@@ -225,7 +225,7 @@ module _ (p : Program) (sound : IsSound p) (w : IsWritable p) where
   returns_value h e = ap (λ o. may_return o (Some e)) (sig_here (sig_of f)) ∙ value_returned f.gives_int h e
 
   last_acts : (b : Bool) → (b ≡ false → may_return (shape.sig_of sigs f.name) None ≡ true) → AllAct sigs all_objects function_head (last_instr b ∷ [])
-  last_acts true h = (plain_act sigs all_objects function_head Trap tt refl, tt)
+  last_acts true h = (plain_act sigs all_objects function_head Trap tt (λ count. refl), tt)
   last_acts false h = (return_none_acts sigs all_objects function_head (h refl), tt)
 
   none_returned : (b : Bool) → b ≡ false → may_return (Some (record { name = f.name; result = result_kind b; params = ints f.params })) None ≡ true
@@ -310,7 +310,7 @@ module _ (p : Program) (sound : IsSound p) (w : IsWritable p) where
       let means = arguments_mean sigs all_objects start_head 0 f.params (omega arith) (omega arith) in
       plain_act sigs all_objects start_head (Call (Some f.params) f.name (argument_terms 0 f.params))
       (omega arith, w.name, arguments_written sigs all_objects start_head 0 f.params (omega arith) (omega arith))
-      (rw (call, register, means) refl)
+      (λ count. rw (call, register, means) refl)
   call_acts false e =
       let room = start_room in
       let small = start_small in
@@ -318,7 +318,7 @@ module _ (p : Program) (sound : IsSound p) (w : IsWritable p) where
       let means = arguments_mean sigs all_objects start_head 0 f.params (omega arith) (omega arith) in
       plain_act sigs all_objects start_head (Call None f.name (argument_terms 0 f.params))
       (tt, w.name, arguments_written sigs all_objects start_head 0 f.params (omega arith) (omega arith))
-      (rw (call, means) refl)
+      (λ count. rw (call, means) refl)
 
   result_acts : (b : Bool) → f.gives_int ≡ b → MayAct sigs all_objects start_head (Return (if b then Some (Register f.params) else None))
   result_acts true e =
@@ -341,22 +341,22 @@ module _ (p : Program) (sound : IsSound p) (w : IsWritable p) where
       let ranges = ranges_code at 1 f.contract.assigns in
       let checks = group_code (checks_code f.name at 1 f.contract.ensures_) in
       let end = Pop ∷ Return (result_value f) ∷ [] in (
-        plain_act sigs all_objects start_head Statics tt refl,
+        plain_act sigs all_objects start_head Statics tt (λ count. refl),
         (
-          plain_act sigs all_objects start_head OutsideObjects tt refl,
+          plain_act sigs all_objects start_head OutsideObjects tt (λ count. refl),
           all_append (MayAct sigs all_objects start_head) draws (tests ++ (Push ∷ (ranges ++ (call_code f ++ (checks ++ end)))))
               (draws_act sigs all_objects start_head 0 f.params (omega arith) (omega arith))
               (all_append (MayAct sigs all_objects start_head) tests (Push ∷ (ranges ++ (call_code f ++ (checks ++ end))))
               (group_acts sigs all_objects start_head (require_code at f.contract.requires_)
               (require_acts p sound.few w.name sigs start_head small at f.contract.requires_ (clauses_fit p false start_head.regs room (λ e. absurd (cc)) (omega arith)) sound.requires_ w.low_requires)) (
-                plain_act sigs all_objects start_head Push tt refl,
+                plain_act sigs all_objects start_head Push tt (λ count. refl),
                 all_append (MayAct sigs all_objects start_head) ranges (call_code f ++ (checks ++ end))
                     (ranges_act p sound.few w.name sigs start_head small at 1 f.contract.assigns (omega arith) sound.assigns) (
                       call_acts f.gives_int refl,
                       all_append (MayAct sigs all_objects start_head) checks end
                           (group_acts sigs all_objects start_head (checks_code f.name at 1 f.contract.ensures_)
                           (checks_act p sound.few w.name sigs start_head small at 1 f.contract.ensures_ (omega arith) (clauses_fit p f.gives_int start_head.regs room (start_result f.gives_int) (omega arith)) sound.ensures_ w.low_ensures))
-                          (plain_act sigs all_objects start_head Pop tt refl, (result_acts f.gives_int refl, tt)),
+                          (plain_act sigs all_objects start_head Pop tt (λ count. refl), (result_acts f.gives_int refl, tt)),
                     ),
               )),
         ),

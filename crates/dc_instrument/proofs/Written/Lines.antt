@@ -6,7 +6,7 @@ use Rattle.std.proofs.lemmas.Grind.{flat_map-append}
 use Rattle.dc_text.specs.Words.{same}
 use Rattle.dc_goto.specs.Lines.{BodyHead, Line, Version, Function, Static, Opening, Instruction, End, head_of, forms_of_body}
 use Rattle.dc_goto.specs.Program.{Instr, Sig, StaticVar, Body}
-use Rattle.dc_goto.specs.Shape.{functions_in, function_in, names_in, name_in, heads_in, head_in, last, first, may_follow, names_limit, may_name, is_size, may_open, may_act_in, leaves, goes_on, may_say, keeps, is_end, is_start, first_broken}
+use Rattle.dc_goto.specs.Shape.{functions_in, function_in, names_in, name_in, heads_in, head_in, last, first, may_follow, names_limit, may_name, is_size, may_open, may_act_in, code_around, leaves, goes_on, may_say, keeps, is_end, is_start, first_broken}
 use Rattle.dc_goto.proofs.Digits.{both_true}
 use Rattle.dc_instrument.specs.Lowering.{int_static}
 use Rattle.dc_instrument.specs.Writable.{AreOther}
@@ -33,18 +33,19 @@ more s (Opening head) = record { functions = s.functions; names = s.names; head 
 more s (Instruction i) = record { functions = s.functions; names = s.names; head = s.head; line = Some (Instruction i) }
 more s End = record { functions = s.functions; names = s.names; head = s.head; line = Some End }
 
-abbrev says : Seen → Line → Option Line → Bool
-says s Version next = true
-says s (Function sig) next = may_name s.names sig.name
-says s (Static v) next = may_name s.names v.name && is_size v.size
-says s (Opening head) next = may_open s.functions s.head head
-says s (Instruction i) next = may_act_in s.functions (length s.names) s.head i && (leaves i || goes_on next)
-says s End next = true
+-- in a body with so many instructions
+abbrev says : Seen → ℕ → Line → Option Line → Bool
+says s count Version next = true
+says s count (Function sig) next = may_name s.names sig.name
+says s count (Static v) next = may_name s.names v.name && is_size v.size
+says s count (Opening head) next = may_open s.functions s.head head
+says s count (Instruction i) next = may_act_in s.functions (length s.names) s.head count i && (leaves i || goes_on next)
+says s count End next = true
 
--- the lines keep the rules behind what was seen, and none is missing
+-- the lines keep the rules behind what was seen, however many instructions their bodies have, and none is missing
 abbrev pub Kept : Seen → List Line → Type 0
 Kept s [] = (is_end s.line && is_start s.head) ≡ true
-Kept s (line ∷ lines) = (may_follow s.line line ≡ true) × (says s line (first lines) ≡ true) × Kept (more s line) lines
+Kept s (line ∷ lines) = (may_follow s.line line ≡ true) × ((count : ℕ) → says s count line (first lines) ≡ true) × Kept (more s line) lines
 
 last-push : {A : Type 0} (xs : List A) (x : A) → last (xs ++ x ∷ []) ≡ Some x
 last-push [] x = refl
@@ -86,7 +87,7 @@ seen-more lines (Instruction i) =
 seen-more lines End =
     made (seen (lines ++ End ∷ [])) (more (seen lines) End) (unchanged function_in lines End refl) (unchanged name_in lines End refl) (same_head lines End refl) (last-push lines End)
 
-says_it : (before : List Line) (line : Line) (after : List Line) → may_say before line after ≡ says (seen before) line (first after)
+says_it : (before : List Line) (line : Line) (after : List Line) → may_say before line after ≡ says (seen before) (code_around before (line ∷ after)) line (first after)
 says_it before Version after = refl
 says_it before (Function sig) after = refl
 says_it before (Static v) after = refl
@@ -98,7 +99,7 @@ says_it before End after = refl
 pub none_broken : (before after : List Line) → Kept (seen before) after → first_broken before after ≡ None
 none_broken before [] k = ap (λ b. if b then None else Some (suc (length before))) k
 none_broken before (line ∷ after) k =
-    let keeps_it : keeps before line after ≡ true = both_true (may_follow (last before) line) (may_say before line after) k.0 (says_it before line after ∙ k.1) in
+    let keeps_it : keeps before line after ≡ true = both_true (may_follow (last before) line) (may_say before line after) k.0 (says_it before line after ∙ k.1 (code_around before (line ∷ after))) in
     ap (λ b. if b then first_broken (before ++ line ∷ []) after else Some (suc (length before))) keeps_it
     ∙ none_broken (before ++ line ∷ []) after (subst (λ s. Kept s after) (sym (seen-more before line)) k.2)
 
@@ -145,7 +146,7 @@ statics_kept functions names line [] n rest b other e few go = go names line (om
 statics_kept functions names line (name ∷ statics) n rest b other e few go =
     let more_names = length-append names (name ∷ []) in (
       static_follows line (int_static name) b,
-      both_true (may_name names name) true (named names name other.0 (omega arith)) refl,
+      λ count. both_true (may_name names name) true (named names name other.0 (omega arith)) refl,
       statics_kept functions (names ++ name ∷ []) (Static (int_static name)) statics n rest refl other.1 (omega arith) few go,
     )
 
@@ -177,12 +178,12 @@ pub code_kept : (functions : List Sig) (names : List (List ℕ)) (head : BodyHea
 code_kept functions names head line [] rest b acts ends go = absurd ends
 code_kept functions names head line (i ∷ []) rest b acts ends go = (
   instruction_follows line i b,
-  both_true (may_act_in functions (length names) (Some head) i) (leaves i || false) acts.0.acts (rw ends refl),
-  (refl, refl, go),
+  λ count. both_true (may_act_in functions (length names) (Some head) count i) (leaves i || false) (acts.0.acts count) (rw ends refl),
+  (refl, (λ count. refl), go),
 )
 code_kept functions names head line (i ∷ next ∷ code) rest b acts ends go = (
   instruction_follows line i b,
-  both_true (may_act_in functions (length names) (Some head) i) (leaves i || true) acts.0.acts (either (leaves i)),
+  λ count. both_true (may_act_in functions (length names) (Some head) count i) (leaves i || true) (acts.0.acts count) (either (leaves i)),
   code_kept functions names head (Instruction i) (next ∷ code) rest refl acts.1 ends go,
 )
 
@@ -192,4 +193,4 @@ pub body_kept : (functions : List Sig) (names : List (List ℕ)) (last_head : Op
     → AllAct functions (length names) (head_of body) body.code → EndsLeaving body.code → Kept (at_line functions names (Some (head_of body)) End) rest
     → Kept (at_line functions names last_head line) (forms_of_body body ++ rest)
 body_kept functions names last_head line body rest follows opens acts ends go =
-    (follows, opens, code_kept functions names (head_of body) (Opening (head_of body)) body.code rest refl acts ends go)
+    (follows, (λ count. opens), code_kept functions names (head_of body) (Opening (head_of body)) body.code rest refl acts ends go)

@@ -1,16 +1,17 @@
 -- The terms of expressions and places may stand in lines.
 use Rattle.std.proofs.Common.{◌≡◌, ℕ, suc, ◌+◌, ◌^◌, ◌≤◌, ◌<◌, Bool, true, false, length, refl, arith, ℤ, pos, negsuc}
-use Rattle.std.specs.Prelude.{nat_lt, nat_le}
+use Rattle.std.specs.Prelude.{◌&&◌, ◌||◌, nat_lt, nat_le}
 use Rattle.std.proofs.lemmas.Bool.Decides.{nat_tests}
 use Rattle.std.proofs.lemmas.Int.{ints}
 use Rattle.dc_num.specs.declared.kind.NumKind.{NumKind}
 use Rattle.dc_num.specs.declared.kind.NumKind.TheVariants.{S32}
+use Rattle.dc_num.specs.declared.operators.BinOp.{BinOp}
 use Rattle.dc_num.specs.Kinds.{IsValue, is_value}
 use Rattle.dc_core.specs.Program.{Expr, Literal, Variable, Parameter, ReturnValue, Binary, Program}
 use Rattle.dc_core.specs.Sound.{Stands, IsLvalue, IsTarget}
 use Rattle.dc_core.specs.Term.{Term, Constant, Register, Object, Load}
 use Rattle.dc_goto.specs.Lines.{IsConstant, HasNumbers, IsTerm, height, height_limit}
-use Rattle.dc_goto.specs.Shape.{may_mean}
+use Rattle.dc_goto.specs.Shape.{is_comparison, may_compute, may_mean}
 use Rattle.dc_goto.proofs.Digits.{both_true}
 use Rattle.dc_instrument.specs.Lowering.{term_of, place_term, parameter_term, result_term, int_len}
 use Rattle.dc_instrument.specs.Writable as writable
@@ -112,6 +113,14 @@ clauses_fit p result regs room last small =
       result_is = λ e. numbers_register (suc (length p.statics)) regs p.function.params (last e) small;
     }
 
+-- every operator is one of ints
+int_computes : (op : BinOp) → may_compute op S32 ≡ true
+int_computes op = or_true (is_comparison op)
+  where
+    or_true : (b : Bool) → (b || true) ≡ true
+    or_true true = refl
+    or_true false = refl
+
 numbers_stand : (p : Program) (result : Bool) (at : Places) (regs : ℕ) (e : Expr)
     → length p.statics ≤ 32766 → Fits p result at regs → Stands p result e → NumbersStand (suc (length p.statics)) regs (term_of at e)
 numbers_stand p result at regs (Literal z) few f s = numbers_constant (suc (length p.statics)) regs z s
@@ -124,7 +133,9 @@ numbers_stand p result at regs (Binary op a b) few f s =
     let y = numbers_stand p result at regs b few f s.1 in
     record {
       numbers = (x.numbers, y.numbers);
-      means = both_true (may_mean (suc (length p.statics)) regs (term_of at a)) (may_mean (suc (length p.statics)) regs (term_of at b)) x.means y.means;
+      means =
+          both_true (may_compute op S32 && may_mean (suc (length p.statics)) regs (term_of at a)) (may_mean (suc (length p.statics)) regs (term_of at b))
+          (both_true (may_compute op S32) (may_mean (suc (length p.statics)) regs (term_of at a)) (int_computes op) x.means) y.means;
     }
 
 pub term_stands : (p : Program) (result : Bool) (at : Places) (regs : ℕ) (e : Expr)

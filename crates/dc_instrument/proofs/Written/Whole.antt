@@ -96,10 +96,10 @@ lowered_shaped p sound w =
     let start = start_body p.function in
     none_broken [] (forms_of (goto_of p)) (
       refl,
-      refl,
+      (λ count. refl),
       (
         refl,
-        first_name,
+        (λ count. first_name),
         statics_kept functions (p.function.name ∷ []) (Function (sig_of p.function)) p.statics (suc (length p.statics)) (forms_of_body function ++ (forms_of_body start ++ []))
             refl w.differ (omega arith) (omega arith)
             (λ names line count b.

@@ -15,3 +15,15 @@ decreases-read_opened l = l.height * 4 + 2
 
 abbrev pub decreases-read_parenthesised : goal.decreases-read_parenthesised
 decreases-read_parenthesised l = l.height * 4 + 3
+
+abbrev pub decreases-read_convert : goal.decreases-read_convert
+decreases-read_convert l = l.height * 4 + 1
+
+abbrev pub decreases-read_unary : goal.decreases-read_unary
+decreases-read_unary l = l.height * 4 + 1
+
+abbrev pub decreases-read_lazy : goal.decreases-read_lazy
+decreases-read_lazy l = l.height * 4 + 1
+
+abbrev pub decreases-read_choice : goal.decreases-read_choice
+decreases-read_choice l = l.height * 4 + 1

@@ -6,4 +6,4 @@ use Rattle.dc_scan.proofs.shape.first_misshapen.Given as goal
 
 abbrev pub invariant-loop-i : goal.invariant-loop-i
 invariant-loop-i l =
-    Walked l.front.functions l.front.names (option_map (λ head. head_view head.now) l.front.head) (option_map (λ line. line_view line.now) l.front.line) (map line_view l.lines) l.i
+    Walked l.front.functions l.front.names (option_map (λ head. head_view head.now) l.front.head) l.front.count (option_map (λ line. line_view line.now) l.front.line) (map line_view l.lines) l.i

@@ -8,3 +8,9 @@ returns-in-Call g c = rw c.in-Call.is (alone-step running _ _ c.call.result _ _ 
 
 pub returns-in-Return : goal.returns-in-Return
 returns-in-Return g c = rw c.in-Return.is (alone-step running _ _ c.return_value.result _ _ _ (c.return_value.ensures (linked_view c.args.p.now)))
+
+pub returns-in-Goto : goal.returns-in-Goto
+returns-in-Goto g c = rw c.in-Goto.is (alone-step running _ _ c.jump.result _ _ _ (c.jump.ensures (linked_view c.args.p.now) c.args.name.now _))
+
+pub returns-in-IfNot : goal.returns-in-IfNot
+returns-in-IfNot g c = rw c.in-IfNot.is (alone-step running _ _ c.branch-self.result _ _ _ (c.branch-self.ensures (linked_view c.args.p.now) _))

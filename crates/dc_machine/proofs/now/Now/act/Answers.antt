@@ -14,6 +14,18 @@ use Rattle.dc_machine.proofs.now.Now.act.Goals as goal
 pub returns-in-Set : goal.returns-in-Set
 returns-in-Set g c = λ straight. rw c.in-Set.is (alone-step acting _ _ c.set.result _ _ _ (c.set.ensures (linked_view c.args.p.now) _))
 
+pub returns-in-Keep : goal.returns-in-Keep
+returns-in-Keep g c = λ straight. rw c.in-Keep.is (alone-step acting _ _ c.keep.result _ _ _ (c.keep.ensures (linked_view c.args.p.now) c.args.name.now _))
+
+pub returns-in-Kill : goal.returns-in-Kill
+returns-in-Kill g c = λ straight. rw c.in-Kill.is (alone-step acting _ _ c.kill.result _ _ _ (c.kill.ensures (linked_view c.args.p.now) c.args.name.now))
+
+pub returns-in-Assert : goal.returns-in-Assert
+returns-in-Assert g c = λ straight. rw c.in-Assert.is (alone-step acting _ _ c.assert.result _ _ _ (rw c.as_slice-in-Assert.ensures at (c.assert.ensures (linked_view c.args.p.now))))
+
+pub returns-in-Assume : goal.returns-in-Assume
+returns-in-Assume g c = λ straight. rw c.in-Assume.is (alone-step acting _ _ c.assume.result _ _ _ (c.assume.ensures (linked_view c.args.p.now) _))
+
 pub returns-in-Store : goal.returns-in-Store
 returns-in-Store g c = λ straight. rw c.in-Store.is (alone-step acting _ _ c.store.result _ _ _ (c.store.ensures (linked_view c.args.p.now)))
 

@@ -1,7 +1,7 @@
-use Rattle.std.proofs.Common.{refl, sym}
+use Rattle.std.proofs.Common.{refl, sym, ap, ◌∙◌}
 use Rattle.dc_machine.specs.Step.{acting}
 use Rattle.dc_machine.specs.View.{now_view}
-use Rattle.dc_goto.specs.Machine.{with_register}
+use Rattle.dc_goto.specs.Machine.{with_held, with_register}
 use Rattle.dc_core.specs.Choices.{draw_value}
 use Rattle.dc_machine.proofs.Parts.{step_cut}
 use Rattle.dc_machine.proofs.Draws.{drawn_goes, drawn_ends, drawn_cut}
@@ -19,4 +19,4 @@ returns-in-None g c = λ p name.
 pub returns-in-Some : goal.returns-in-Some
 returns-in-Some g c = λ p name.
     drawn_goes (draw_value c.args.kind) (now_view c.args.self.now) (now_view c.put.new.self) (λ v t. with_register c.args.register v t) _ _ _ _ _ (λ choices rest. refl)
-    (λ rest. sym (c.put.ensures _ rest c.in-Some.is)) (rw c.in-Some.is at c.in_ok-held.ensures.drawn)
+    (λ rest. sym (c.put.ensures rest ∙ ap (λ held. with_held c.args.register held (now_view c.args.self.now rest)) c.in-Some.is)) (rw c.in-Some.is at c.in_ok-held.ensures.drawn)

@@ -1,6 +1,6 @@
 use Rattle.std.proofs.Common.{◌≡◌, [], ◌∷◌, Some, refl, ap, sym, ◌∙◌}
 use Rattle.dc_core.specs.Run.{Did}
-use Rattle.dc_goto.specs.Machine.{Next}
+use Rattle.dc_goto.specs.Machine.{Next, with_held}
 use Rattle.dc_machine.specs.View.{now_view}
 use Rattle.std.proofs.Common.{pos, to_z, of_z}
 use Rattle.dc_core.specs.Event as event
@@ -27,6 +27,6 @@ returns g c = λ p name.
       notes = Did (event.Create c.in_ok-number.number) ∷ [];
       goes = λ rest.
           local-made p name c.args.register c.args.len c.in_ok-number.number (now_view c.args.self.now rest) (now_view c.push_local.new.self rest) (sym (c.is_full.ensures rest) ∙ c.if-is_full.false) (made.1 rest).0 (made.1 rest).1
-          ∙ ap (Next (Did (event.Create c.in_ok-number.number) ∷ [])) (sym (c.put.ensures (pos (start_of c.in_ok-number.number)) rest (ap Some read)));
+          ∙ ap (Next (Did (event.Create c.in_ok-number.number) ∷ [])) (sym (c.put.ensures rest ∙ ap (λ held. with_held c.args.register held (now_view c.push_local.new.self rest)) (ap Some read)));
       heard = c.tell.ensures;
     }

@@ -1,6 +1,6 @@
 use Rattle.std.proofs.Common.{[], refl, ap, sym, ◌∙◌}
 use Rattle.dc_core.specs.View.{term_view}
-use Rattle.dc_goto.specs.Machine.{Next, act}
+use Rattle.dc_goto.specs.Machine.{Next, act, with_held}
 use Rattle.dc_world.specs.declared.report.End.TheVariants as end
 use Rattle.dc_machine.specs.Step.{acting}
 use Rattle.dc_machine.specs.View.{now_view}
@@ -19,6 +19,6 @@ returns-in-Some c = λ p h. record {
   notes = [];
   goes = λ rest.
       set-some p c.args.name.now c.args.register (term_view c.args.value.now) (now_view c.args.self.now rest) _ (sym c.value-held.ensures ∙ c.in-Some.is)
-      ∙ ap (Next []) (sym (c.put.ensures _ rest c.in-Some.is));
+      ∙ ap (Next []) (sym (c.put.ensures rest ∙ ap (λ held. with_held c.args.register held (now_view c.args.self.now rest)) c.in-Some.is));
   heard = refl;
 }
