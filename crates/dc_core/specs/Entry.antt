@@ -32,16 +32,33 @@ outside_object number (suc zero) = dead_object number Stack
 outside_object number (suc (suc zero)) = live_object number Heap
 outside_object number (suc (suc (suc k))) = live_object number Stack
 
--- that many objects from this number on, each of one of four sorts
-abbrev pub outside_objects : ℕ → ℕ → Draws Memory
-outside_objects number zero = give []
-outside_objects number (suc n) =
-    draw 4 >>= λ sort. outside_object number sort >>= λ object. outside_objects (suc number) n >>= λ objects. give (object ∷ objects)
+-- an object that a replaced call or a contract loop brings, of the sort that was drawn for it
+abbrev pub new_object : ℕ → ℕ → Draws Object
+new_object number zero = dead_object number Heap
+new_object number (suc zero) = dead_object number Stack
+new_object number (suc (suc k)) = live_object number Heap
 
--- the memory with outside objects behind it; their count is drawn first
+-- that many objects from this number on, each of one of so many sorts
+abbrev pub drawn_objects : ℕ → (ℕ → ℕ → Draws Object) → ℕ → ℕ → Draws Memory
+drawn_objects sorts of_sort number zero = give []
+drawn_objects sorts of_sort number (suc n) =
+    draw sorts >>= λ sort. of_sort number sort >>= λ object. drawn_objects sorts of_sort (suc number) n >>= λ objects. give (object ∷ objects)
+
+-- the memory with such objects behind it; their count is drawn first
+abbrev pub with_drawn : ℕ → (ℕ → ℕ → Draws Object) → Memory → Draws Memory
+with_drawn sorts of_sort memory =
+    draw (suc object_limit - length memory) >>= λ count. drawn_objects sorts of_sort (suc (length memory)) count >>= λ objects. give (memory ++ objects)
+
+-- outside objects are of four sorts
+abbrev pub outside_objects : ℕ → ℕ → Draws Memory
+outside_objects = drawn_objects 4 outside_object
+
 unfoldable pub with_outside : Memory → Draws Memory
-with_outside memory =
-    draw (suc object_limit - length memory) >>= λ count. outside_objects (suc (length memory)) count >>= λ objects. give (memory ++ objects)
+with_outside memory = with_drawn 4 outside_object memory
+
+-- new objects are of three
+unfoldable pub with_new : Memory → Draws Memory
+with_new memory = with_drawn 3 new_object memory
 
 -- arguments of these kinds
 abbrev pub draw_values : List NumKind → Draws (List ℤ)

@@ -77,6 +77,7 @@ program_view p = record { statics = map (λ v. v.name) p.1.0; function = functio
 abbrev pub term_step : Term-F plain_term.Term → plain_term.Term
 term_step (Term-F.Constant kind z) = plain_term.Constant kind z
 term_step (Term-F.Register r) = plain_term.Register r
+term_step (Term-F.Variable d) = plain_term.Variable d
 term_step (Term-F.Object n) = plain_term.Object n
 term_step (Term-F.Load kind a) = plain_term.Load kind a
 term_step (Term-F.Convert to from e) = plain_term.Convert to from e
@@ -84,6 +85,12 @@ term_step (Term-F.Unary op kind e) = plain_term.Unary op kind e
 term_step (Term-F.Binary op kind a b) = plain_term.Binary op kind a b
 term_step (Term-F.Lazy op a b) = plain_term.Lazy op a b
 term_step (Term-F.Choice a b c) = plain_term.Choice a b c
+term_step (Term-F.Moved size p n) = plain_term.Moved size p n
+term_step (Term-F.Distance size p q) = plain_term.Distance size p q
+term_step (Term-F.Asked of p) = plain_term.Asked of p
+term_step (Term-F.Tested test p n) = plain_term.Tested test p n
+term_step (Term-F.Between a b c) = plain_term.Between a b c
+term_step (Term-F.Quantified q d kind a b c) = plain_term.Quantified q d kind a b c
 
 abbrev pub term_view : Term → plain_term.Term
 term_view = fold-Term plain_term.Term term_step

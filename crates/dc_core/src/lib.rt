@@ -8,6 +8,6 @@ mod term;
 
 pub use dc_num::{BinOp, NumKind, UnOp};
 pub use dc_text::Name;
-pub use operators::LazyOp;
+pub use operators::{LazyOp, Property, Quantifier, RangeTest};
 pub use parts::{assigned, body, ensured, function, gives_int, parameters, params, required};
 pub use term::Term;

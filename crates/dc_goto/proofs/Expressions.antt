@@ -8,12 +8,15 @@ use Rattle.dc_num.specs.declared.kind.NumKind.{NumKind}
 use Rattle.dc_num.specs.declared.kind.NumKind.TheVariants.{Bool as Truth, S8, U8, S16, U16, S32, U32, S64, U64, Ptr}
 use Rattle.dc_num.specs.declared.operators.UnOp.TheVariants.{Neg, Not}
 use Rattle.dc_core.specs.declared.operators.LazyOp.TheVariants.{Both, Either}
-use Rattle.dc_core.specs.Term.{Term, Constant, Register, Object, Load, Convert, Unary, Binary, Lazy, Choice}
+use Rattle.dc_core.specs.declared.operators.Property.TheVariants.{Start, Size, Offset, Freeable, Freed}
+use Rattle.dc_core.specs.declared.operators.RangeTest.TheVariants.{Accessible, Fresh, New}
+use Rattle.dc_core.specs.declared.operators.Quantifier.TheVariants.{ForAll, Exists}
+use Rattle.dc_core.specs.Term.{Term, Constant, Register, Variable, Object, Load, Convert, Unary, Binary, Lazy, Choice, Moved, Distance, Asked, Tested, Between, Quantified}
 use Rattle.dc_text.specs.Words.{same}
-use Rattle.dc_goto.specs.Text.{kind_word, operator_word, unary_word, lazy_word, number_word, spaced, parenthesised, term_word}
+use Rattle.dc_goto.specs.Text.{kind_word, operator_word, unary_word, lazy_word, property_word, test_word, quantifier_word, number_word, spaced, parenthesised, term_word}
 use Rattle.dc_goto.specs.Lines.{IsNumber, IsConstant, HasNumbers, height, height_limit, IsTerm}
-use Rattle.dc_goto.specs.Reading.{Reading, got, behind_byte, front_word, behind_word, read_word, read_one, read_two, read_three, constant_of, kind_of, operator_of, read_number, read_kind, read_constant, read_leaf, read_operated, read_opened, closed, read_parenthesised, read_term, read_low}
-use Rattle.dc_goto.proofs.Pieces.{then_parts, got_parts, behind_parts, by_word, Ends, word_whole, Reads, word_reads, one_complete, one_sound, two_complete, two_sound, three_complete, three_sound}
+use Rattle.dc_goto.specs.Reading.{Reading, got, behind_byte, front_word, behind_word, read_word, read_one, read_two, read_three, constant_of, kind_of, operator_of, read_number, read_kind, read_constant, read_leaf, read_placed, read_claimed, read_operated, read_opened, closed, read_parenthesised, read_term, read_low}
+use Rattle.dc_goto.proofs.Pieces.{then_parts, got_parts, behind_parts, by_word, Ends, word_whole, Reads, word_reads, one_complete, one_sound, two_complete, two_sound, three_complete, three_sound, five_complete, five_sound}
 use Rattle.dc_goto.proofs.Meanings.{number_means, constant_means, IsAny, kind_means, operator_sound}
 
 pub number_reads : Reads read_number decimal IsNumber
@@ -33,12 +36,19 @@ IsWithin n t = HasNumbers t × (height t ≤ n)
 abbrev inner : Term → List ℕ
 inner (Constant kind z) = kind_word kind ++ spaced (number_word z ∷ [])
 inner (Register r) = codes "reg" ++ spaced (decimal r ∷ [])
+inner (Variable d) = codes "var" ++ spaced (decimal d ∷ [])
 inner (Object n) = codes "obj" ++ spaced (decimal n ∷ [])
 inner (Load kind a) = codes "load" ++ spaced (kind_word kind ∷ term_word a ∷ [])
 inner (Convert to from a) = codes "conv" ++ spaced (kind_word to ∷ kind_word from ∷ term_word a ∷ [])
 inner (Unary op kind a) = unary_word op ++ spaced (kind_word kind ∷ term_word a ∷ [])
 inner (Binary op kind a b) = operator_word op ++ spaced (kind_word kind ∷ term_word a ∷ term_word b ∷ [])
 inner (Lazy op a b) = lazy_word op ++ spaced (term_word a ∷ term_word b ∷ [])
+inner (Moved size a b) = codes "at" ++ spaced (decimal size ∷ term_word a ∷ term_word b ∷ [])
+inner (Distance size a b) = codes "diff" ++ spaced (decimal size ∷ term_word a ∷ term_word b ∷ [])
+inner (Asked of a) = property_word of ++ spaced (term_word a ∷ [])
+inner (Tested test a b) = test_word test ++ spaced (term_word a ∷ term_word b ∷ [])
+inner (Between a b c) = codes "inrange" ++ spaced (term_word a ∷ term_word b ∷ term_word c ∷ [])
+inner (Quantified q d kind a b c) = quantifier_word q ++ spaced (decimal d ∷ kind_word kind ∷ term_word a ∷ term_word b ∷ term_word c ∷ [])
 inner (Choice a b c) = codes "if" ++ spaced (term_word a ∷ term_word b ∷ term_word c ∷ [])
 
 parenthesised_inner : (word : List ℕ) (words : List (List ℕ)) → parenthesised word words ≡ 40 ∷ ((word ++ spaced words) ++ 41 ∷ [])
@@ -47,6 +57,7 @@ parenthesised_inner word words = ap (λ l. 40 ∷ l) (sym (append_assoc word (sp
 word_inner : (t : Term) → term_word t ≡ 40 ∷ (inner t ++ 41 ∷ [])
 word_inner (Constant kind z) = parenthesised_inner (kind_word kind) (number_word z ∷ [])
 word_inner (Register r) = refl
+word_inner (Variable d) = refl
 word_inner (Object n) = refl
 word_inner (Load kind a) = refl
 word_inner (Convert to from a) = refl
@@ -54,6 +65,13 @@ word_inner (Unary op kind a) = parenthesised_inner (unary_word op) (kind_word ki
 word_inner (Binary op kind a b) = parenthesised_inner (operator_word op) (kind_word kind ∷ term_word a ∷ term_word b ∷ [])
 word_inner (Lazy op a b) = parenthesised_inner (lazy_word op) (term_word a ∷ term_word b ∷ [])
 word_inner (Choice a b c) = refl
+word_inner (Moved size a b) = refl
+word_inner (Distance size a b) = refl
+word_inner (Asked of a) = parenthesised_inner (property_word of) (term_word a ∷ [])
+word_inner (Tested test a b) = parenthesised_inner (test_word test) (term_word a ∷ term_word b ∷ [])
+word_inner (Between a b c) = refl
+word_inner (Quantified q d kind a b c) =
+    parenthesised_inner (quantifier_word q) (decimal d ∷ kind_word kind ∷ term_word a ∷ term_word b ∷ term_word c ∷ [])
 
 word_before : (t : Term) (rest : List ℕ) → term_word t ++ rest ≡ 40 ∷ (inner t ++ (41 ∷ rest))
 word_before t rest = ap (λ l. l ++ rest) (word_inner t) ∙ ap (λ l. 40 ∷ l) (append_assoc (inner t) (41 ∷ []) rest)
@@ -102,14 +120,50 @@ constant_sound n (Some kind) word bytes rest t w h =
 
 leaf_sound : (n : ℕ) (word bytes rest : List ℕ) (t : Term) → read_leaf word bytes ≡ got t rest → Opened n word rest bytes t
 leaf_sound n word bytes rest t h =
-    by_word word (codes "reg") (read_one read_number Register bytes) (if same word (codes "obj") then read_one read_number Object bytes else read_constant (kind_of word) bytes) (got t rest) (Opened n word rest bytes t) h
+    by_word word (codes "reg") _ _ (got t rest) (Opened n word rest bytes t) h
     (λ w h. one_sound number_reads Register bytes rest t h (Opened n word rest) (λ r is. (ap (λ w. w ++ (spaced (decimal r ∷ []) ++ rest)) w, (is, higher n))))
-    (λ h. by_word word (codes "obj") (read_one read_number Object bytes) (read_constant (kind_of word) bytes) (got t rest) (Opened n word rest bytes t) h
+    (λ h. by_word word (codes "var") _ _ (got t rest) (Opened n word rest bytes t) h
+    (λ w h. one_sound number_reads Variable bytes rest t h (Opened n word rest) (λ r is. (ap (λ w. w ++ (spaced (decimal r ∷ []) ++ rest)) w, (is, higher n))))
+    (λ h. by_word word (codes "obj") _ _ (got t rest) (Opened n word rest bytes t) h
     (λ w h. one_sound number_reads Object bytes rest t h (Opened n word rest) (λ r is. (ap (λ w. w ++ (spaced (decimal r ∷ []) ++ rest)) w, (is, higher n))))
-    (λ h. constant_sound n (kind_of word) word bytes rest t (λ k e. (kind_means.sound word k e).0) h))
+    (λ h. constant_sound n (kind_of word) word bytes rest t (λ k e. (kind_means.sound word k e).0) h)))
+
+placed_sound : (n : ℕ) (again : List ℕ → Reading Term) → Reads again term_word (IsWithin n) → (word bytes rest : List ℕ) (t : Term) → read_placed again word bytes ≡ got t rest → Opened n word rest bytes t
+placed_sound n again r word bytes rest t h =
+    by_word word (codes "at") _ _ (got t rest) (Opened n word rest bytes t) h
+    (λ w h. three_sound number_reads r r (Moved) bytes rest t h (Opened n word rest) (λ size a b iz ia ib. (ap (λ w. w ++ (spaced (decimal size ∷ term_word a ∷ term_word b ∷ []) ++ rest)) w, ((iz, ia.0, ib.0), higher_both (height a) (height b) n ia.1 ib.1))))
+    (λ h. by_word word (codes "diff") _ _ (got t rest) (Opened n word rest bytes t) h
+    (λ w h. three_sound number_reads r r (Distance) bytes rest t h (Opened n word rest) (λ size a b iz ia ib. (ap (λ w. w ++ (spaced (decimal size ∷ term_word a ∷ term_word b ∷ []) ++ rest)) w, ((iz, ia.0, ib.0), higher_both (height a) (height b) n ia.1 ib.1))))
+    (λ h. by_word word (codes "start") _ _ (got t rest) (Opened n word rest bytes t) h
+    (λ w h. one_sound r (Asked Start) bytes rest t h (Opened n word rest) (λ a ia. (ap (λ w. w ++ (spaced (term_word a ∷ []) ++ rest)) w, (ia.0, higher_one (height a) n ia.1))))
+    (λ h. by_word word (codes "size") _ _ (got t rest) (Opened n word rest bytes t) h
+    (λ w h. one_sound r (Asked Size) bytes rest t h (Opened n word rest) (λ a ia. (ap (λ w. w ++ (spaced (term_word a ∷ []) ++ rest)) w, (ia.0, higher_one (height a) n ia.1))))
+    (λ h. by_word word (codes "offset") _ _ (got t rest) (Opened n word rest bytes t) h
+    (λ w h. one_sound r (Asked Offset) bytes rest t h (Opened n word rest) (λ a ia. (ap (λ w. w ++ (spaced (term_word a ∷ []) ++ rest)) w, (ia.0, higher_one (height a) n ia.1))))
+    (λ h. by_word word (codes "freeable") _ _ (got t rest) (Opened n word rest bytes t) h
+    (λ w h. one_sound r (Asked Freeable) bytes rest t h (Opened n word rest) (λ a ia. (ap (λ w. w ++ (spaced (term_word a ∷ []) ++ rest)) w, (ia.0, higher_one (height a) n ia.1))))
+    (λ h. by_word word (codes "freed") _ _ (got t rest) (Opened n word rest bytes t) h
+    (λ w h. one_sound r (Asked Freed) bytes rest t h (Opened n word rest) (λ a ia. (ap (λ w. w ++ (spaced (term_word a ∷ []) ++ rest)) w, (ia.0, higher_one (height a) n ia.1))))
+    (λ h. leaf_sound n word bytes rest t h)))))))
+
+claimed_sound : (n : ℕ) (again : List ℕ → Reading Term) → Reads again term_word (IsWithin n) → (word bytes rest : List ℕ) (t : Term) → read_claimed again word bytes ≡ got t rest → Opened n word rest bytes t
+claimed_sound n again r word bytes rest t h =
+    by_word word (codes "ok") _ _ (got t rest) (Opened n word rest bytes t) h
+    (λ w h. two_sound r r (Tested Accessible) bytes rest t h (Opened n word rest) (λ a b ia ib. (ap (λ w. w ++ (spaced (term_word a ∷ term_word b ∷ []) ++ rest)) w, ((ia.0, ib.0), higher_both (height a) (height b) n ia.1 ib.1))))
+    (λ h. by_word word (codes "fresh") _ _ (got t rest) (Opened n word rest bytes t) h
+    (λ w h. two_sound r r (Tested Fresh) bytes rest t h (Opened n word rest) (λ a b ia ib. (ap (λ w. w ++ (spaced (term_word a ∷ term_word b ∷ []) ++ rest)) w, ((ia.0, ib.0), higher_both (height a) (height b) n ia.1 ib.1))))
+    (λ h. by_word word (codes "new") _ _ (got t rest) (Opened n word rest bytes t) h
+    (λ w h. two_sound r r (Tested New) bytes rest t h (Opened n word rest) (λ a b ia ib. (ap (λ w. w ++ (spaced (term_word a ∷ term_word b ∷ []) ++ rest)) w, ((ia.0, ib.0), higher_both (height a) (height b) n ia.1 ib.1))))
+    (λ h. by_word word (codes "inrange") _ _ (got t rest) (Opened n word rest bytes t) h
+    (λ w h. three_sound r r r Between bytes rest t h (Opened n word rest) (λ a b c ia ib ic. (ap (λ w. w ++ (spaced (term_word a ∷ term_word b ∷ term_word c ∷ []) ++ rest)) w, ((ia.0, ib.0, ic.0), higher_three (height a) (height b) (height c) n ia.1 ib.1 ic.1))))
+    (λ h. by_word word (codes "forall") _ _ (got t rest) (Opened n word rest bytes t) h
+    (λ w h. five_sound number_reads kind_reads r r r (Quantified ForAll) bytes rest t h (Opened n word rest) (λ d kind a b c id_ ik ia ib ic. (ap (λ w. w ++ (spaced (decimal d ∷ kind_word kind ∷ term_word a ∷ term_word b ∷ term_word c ∷ []) ++ rest)) w, ((id_, ia.0, ib.0, ic.0), higher_three (height a) (height b) (height c) n ia.1 ib.1 ic.1))))
+    (λ h. by_word word (codes "exists") _ _ (got t rest) (Opened n word rest bytes t) h
+    (λ w h. five_sound number_reads kind_reads r r r (Quantified Exists) bytes rest t h (Opened n word rest) (λ d kind a b c id_ ik ia ib ic. (ap (λ w. w ++ (spaced (decimal d ∷ kind_word kind ∷ term_word a ∷ term_word b ∷ term_word c ∷ []) ++ rest)) w, ((id_, ia.0, ib.0, ic.0), higher_three (height a) (height b) (height c) n ia.1 ib.1 ic.1))))
+    (λ h. placed_sound n again r word bytes rest t h))))))
 
 operated_sound : (n : ℕ) (again : List ℕ → Reading Term) → Reads again term_word (IsWithin n) → (op : Option BinOp) (word bytes rest : List ℕ) (t : Term) → ((o : BinOp) → op ≡ Some o → word ≡ operator_word o) → read_operated again op word bytes ≡ got t rest → Opened n word rest bytes t
-operated_sound n again r None word bytes rest t w h = leaf_sound n word bytes rest t h
+operated_sound n again r None word bytes rest t w h = claimed_sound n again r word bytes rest t h
 operated_sound n again r (Some op) word bytes rest t w h =
     three_sound kind_reads r r (Binary op) bytes rest t h (Opened n word rest) (λ kind a b ik ia ib. (
       ap (λ w. w ++ (spaced (kind_word kind ∷ term_word a ∷ term_word b ∷ []) ++ rest)) (w op refl)
@@ -147,6 +201,7 @@ opened_complete n again r (Constant S64 z) rest is e = one_complete constant_rea
 opened_complete n again r (Constant U64 z) rest is e = one_complete constant_reads (Constant U64) z rest is.0 e
 opened_complete n again r (Constant Ptr z) rest is e = one_complete constant_reads (Constant Ptr) z rest is.0 e
 opened_complete n again r (Register m) rest is e = one_complete number_reads Register m rest is.0 e
+opened_complete n again r (Variable m) rest is e = one_complete number_reads Variable m rest is.0 e
 opened_complete n again r (Object m) rest is e = one_complete number_reads Object m rest is.0 e
 opened_complete n again r (Load kind a) rest is e = two_complete kind_reads r Load kind a rest tt (is.0, lower_one (height a) n is.1) e
 opened_complete n again r (Convert to from a) rest is e = three_complete kind_reads kind_reads r Convert to from a rest tt tt (is.0, lower_one (height a) n is.1) e
@@ -157,6 +212,19 @@ opened_complete n again r (Lazy Either a b) rest is e = two_complete r r (Lazy E
 opened_complete n again r (Choice a b c) rest is e =
     three_complete r r r Choice a b c rest (is.0.0, lower_first (height a) (height b) (height c) n is.1) (is.0.1, lower_second (height a) (height b) (height c) n is.1)
     (is.0.2, lower_third (height a) (height b) (height c) n is.1) e
+opened_complete n again r (Moved size a b) rest is e = three_complete number_reads r r Moved size a b rest is.0.0 (is.0.1, lower_left (height a) (height b) n is.1) (is.0.2, lower_right (height a) (height b) n is.1) e
+opened_complete n again r (Distance size a b) rest is e = three_complete number_reads r r Distance size a b rest is.0.0 (is.0.1, lower_left (height a) (height b) n is.1) (is.0.2, lower_right (height a) (height b) n is.1) e
+opened_complete n again r (Asked Start a) rest is e = one_complete r (Asked Start) a rest (is.0, lower_one (height a) n is.1) e
+opened_complete n again r (Asked Size a) rest is e = one_complete r (Asked Size) a rest (is.0, lower_one (height a) n is.1) e
+opened_complete n again r (Asked Offset a) rest is e = one_complete r (Asked Offset) a rest (is.0, lower_one (height a) n is.1) e
+opened_complete n again r (Asked Freeable a) rest is e = one_complete r (Asked Freeable) a rest (is.0, lower_one (height a) n is.1) e
+opened_complete n again r (Asked Freed a) rest is e = one_complete r (Asked Freed) a rest (is.0, lower_one (height a) n is.1) e
+opened_complete n again r (Tested Accessible a b) rest is e = two_complete r r (Tested Accessible) a b rest (is.0.0, lower_left (height a) (height b) n is.1) (is.0.1, lower_right (height a) (height b) n is.1) e
+opened_complete n again r (Tested Fresh a b) rest is e = two_complete r r (Tested Fresh) a b rest (is.0.0, lower_left (height a) (height b) n is.1) (is.0.1, lower_right (height a) (height b) n is.1) e
+opened_complete n again r (Tested New a b) rest is e = two_complete r r (Tested New) a b rest (is.0.0, lower_left (height a) (height b) n is.1) (is.0.1, lower_right (height a) (height b) n is.1) e
+opened_complete n again r (Between a b c) rest is e = three_complete r r r Between a b c rest (is.0.0, lower_first (height a) (height b) (height c) n is.1) (is.0.1, lower_second (height a) (height b) (height c) n is.1) (is.0.2, lower_third (height a) (height b) (height c) n is.1) e
+opened_complete n again r (Quantified ForAll d kind a b c) rest is e = five_complete number_reads kind_reads r r r (Quantified ForAll) d kind a b c rest is.0.0 tt (is.0.1, lower_first (height a) (height b) (height c) n is.1) (is.0.2, lower_second (height a) (height b) (height c) n is.1) (is.0.3, lower_third (height a) (height b) (height c) n is.1) e
+opened_complete n again r (Quantified Exists d kind a b c) rest is e = five_complete number_reads kind_reads r r r (Quantified Exists) d kind a b c rest is.0.0 tt (is.0.1, lower_first (height a) (height b) (height c) n is.1) (is.0.2, lower_second (height a) (height b) (height c) n is.1) (is.0.3, lower_third (height a) (height b) (height c) n is.1) e
 opened_complete n again r (Binary Add kind a b) rest is e = three_complete kind_reads r r (Binary Add) kind a b rest tt (is.0.0, lower_left (height a) (height b) n is.1) (is.0.1, lower_right (height a) (height b) n is.1) e
 opened_complete n again r (Binary Sub kind a b) rest is e = three_complete kind_reads r r (Binary Sub) kind a b rest tt (is.0.0, lower_left (height a) (height b) n is.1) (is.0.1, lower_right (height a) (height b) n is.1) e
 opened_complete n again r (Binary Mul kind a b) rest is e = three_complete kind_reads r r (Binary Mul) kind a b rest tt (is.0.0, lower_left (height a) (height b) n is.1) (is.0.1, lower_right (height a) (height b) n is.1) e
@@ -199,6 +267,7 @@ parenthesised_reads n again r = record { sound = sound; complete = complete }
 tall : (t : Term) → height t ≤ 0 → ⊥
 tall (Constant kind z) h = omega arith
 tall (Register r) h = omega arith
+tall (Variable d) h = omega arith
 tall (Object n) h = omega arith
 tall (Load kind a) h = omega arith
 tall (Convert to from a) h = omega arith
@@ -206,6 +275,12 @@ tall (Unary op kind a) h = omega arith
 tall (Binary op kind a b) h = omega arith
 tall (Lazy op a b) h = omega arith
 tall (Choice a b c) h = omega arith
+tall (Moved size a b) h = omega arith
+tall (Distance size a b) h = omega arith
+tall (Asked of a) h = omega arith
+tall (Tested test a b) h = omega arith
+tall (Between a b c) h = omega arith
+tall (Quantified q d kind a b c) h = omega arith
 
 pub term_reads : (n : ℕ) → Reads (read_term n) term_word (IsWithin n)
 unfolding read_term

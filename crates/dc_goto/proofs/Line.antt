@@ -6,6 +6,7 @@ use Rattle.dc_core.specs.World.{World}
 use Rattle.dc_core.specs.Run.{Note}
 use Rattle.dc_goto.specs.Program.{Instr, GotoProgram}
 use Rattle.dc_goto.specs.Machine.{Now, Then, Next, Jumps, Ends, Enters, Leaves, act, Frame, Machine, Going, Stopped, noted, go_on, proceed, step, step_at, steps}
+pub use Rattle.dc_goto.specs.Acts.{noted_before as before}
 
 -- the instructions stand in the code at this place
 abbrev pub HasAt : List Instr → ℕ → List Instr → Type 0
@@ -38,46 +39,38 @@ has_all_at before (i ∷ is) place e =
 pub has_all : (is : List Instr) → HasAt is 0 is
 has_all is = has_all_at [] is 0 refl
 
--- what was noted before
-abbrev pub before : List Note → Then → Then
-before notes (Next more s) = Next (notes ++ more) s
-before notes (Jumps place) = Jumps place
-before notes (Ends more e w) = Ends (notes ++ more) e w
-before notes (Enters result name arguments) = Enters result name arguments
-before notes (Leaves value) = Leaves value
-
 abbrev pub then_next : Then → (Now → Then) → Then
 then_next (Next notes s) go = before notes (go s)
-then_next (Jumps place) go = Jumps place
+then_next (Jumps place s) go = Jumps place s
 then_next (Ends notes e w) go = Ends notes e w
-then_next (Enters result name arguments) go = Enters result name arguments
-then_next (Leaves value) go = Leaves value
+then_next (Enters result name arguments s) go = Enters result name arguments s
+then_next (Leaves value s) go = Leaves value s
 
 -- the instructions of a line, one after another
 abbrev pub line : GotoProgram → List ℕ → List Instr → Now → Then
 line p name [] s = Next [] s
 line p name (i ∷ is) s = then_next (act p name i s) (line p name is)
 
-before-before : (xs ys : List Note) (t : Then) → before xs (before ys t) ≡ before (xs ++ ys) t
+pub before-before : (xs ys : List Note) (t : Then) → before xs (before ys t) ≡ before (xs ++ ys) t
 before-before xs ys (Next notes s) = ap (λ ns. Next ns s) (sym (append_assoc xs ys notes))
-before-before xs ys (Jumps place) = refl
+before-before xs ys (Jumps place s) = refl
 before-before xs ys (Ends notes e w) = ap (λ ns. Ends ns e w) (sym (append_assoc xs ys notes))
-before-before xs ys (Enters result name arguments) = refl
-before-before xs ys (Leaves value) = refl
+before-before xs ys (Enters result name arguments s) = refl
+before-before xs ys (Leaves value s) = refl
 
 pub before-nil : (t : Then) → before [] t ≡ t
 before-nil (Next notes s) = refl
-before-nil (Jumps place) = refl
+before-nil (Jumps place s) = refl
 before-nil (Ends notes e w) = refl
-before-nil (Enters result name arguments) = refl
-before-nil (Leaves value) = refl
+before-nil (Enters result name arguments s) = refl
+before-nil (Leaves value s) = refl
 
 then_next-before : (xs : List Note) (t : Then) (go : Now → Then) → then_next (before xs t) go ≡ before xs (then_next t go)
 then_next-before xs (Next notes s) go = sym (before-before xs notes (go s))
-then_next-before xs (Jumps place) go = refl
+then_next-before xs (Jumps place s) go = refl
 then_next-before xs (Ends notes e w) go = refl
-then_next-before xs (Enters result name arguments) go = refl
-then_next-before xs (Leaves value) go = refl
+then_next-before xs (Enters result name arguments s) go = refl
+then_next-before xs (Leaves value s) go = refl
 
 -- a line in two parts
 pub line-append : (p : GotoProgram) (name : List ℕ) (xs ys : List Instr) (s : Now) → line p name (xs ++ ys) s ≡ then_next (line p name xs s) (line p name ys)
@@ -86,10 +79,10 @@ line-append p name (x ∷ xs) ys s = by (act p name x s) (λ t. line-append p na
   where
     by : (t : Then) → ((s : Now) → line p name (xs ++ ys) s ≡ then_next (line p name xs s) (line p name ys)) → then_next t (line p name (xs ++ ys)) ≡ then_next (then_next t (line p name xs)) (line p name ys)
     by (Next notes s) h = ap (before notes) (h s) ∙ sym (then_next-before notes (line p name xs s) (line p name ys))
-    by (Jumps place) h = refl
+    by (Jumps place s) h = refl
     by (Ends notes e w) h = refl
-    by (Enters result function arguments) h = refl
-    by (Leaves value) h = refl
+    by (Enters result function arguments s) h = refl
+    by (Leaves value s) h = refl
 
 -- the state in a body, at a place
 abbrev pub at : List ℕ → List Instr → List Frame → ℕ → Now → Machine
@@ -119,16 +112,16 @@ line_next p name code frames (i ∷ is) place s s' notes has e =
         let n : suc place + length is ≡ place + length (i ∷ is) = omega arith in
         ap (noted xs) (h more (eu ∙ ap (Next more) es)) ∙ ap (λ ns. Going ns (at name code frames (suc place + length is) s')) en ∙ ap (λ k. Going notes (at name code frames k s')) n
     rest t xs (Ends more x w) eu f h = cc
-    rest t xs (Jumps place) eu f h = cc
-    rest t xs (Enters result function arguments) eu f h = cc
-    rest t xs (Leaves value) eu f h = cc
+    rest t xs (Jumps place s) eu f h = cc
+    rest t xs (Enters result function arguments s) eu f h = cc
+    rest t xs (Leaves value s) eu f h = cc
 
     by : (t : Then) → then_next t (line p name is) ≡ Next notes s' → ((t : Now) (more : List Note) → line p name is t ≡ Next more s' → steps p (length is) (at name code frames (suc place) t) ≡ Going more (at name code frames (suc place + length is) s')) → go_on (proceed p (at name code frames place s) t) (steps p (length is)) ≡ Going notes (at name code frames (place + length (i ∷ is)) s')
     by (Next xs t) f h = rest t xs (line p name is t) refl f (λ more. h t more)
     by (Ends xs x w) f h = cc
-    by (Jumps place) f h = cc
-    by (Enters result function arguments) f h = cc
-    by (Leaves value) f h = cc
+    by (Jumps place s) f h = cc
+    by (Enters result function arguments s) f h = cc
+    by (Leaves value s) f h = cc
 
 -- a line that ends the run
 pub line_ends : (p : GotoProgram) (name : List ℕ) (code : List Instr) (frames : List Frame) (is : List Instr) (place : ℕ) (s : Now) (notes : List Note) (end : End) (w : World)
@@ -146,9 +139,9 @@ line_ends p name code frames (i ∷ is) place s notes end w has e =
         let ev : v ≡ w = cc in
         ap (noted xs) (h more (eu ∙ ap (λ y. Ends more y v) ex ∙ ap (Ends more end) ev)) ∙ ap (λ ns. Stopped ns end w) en
     rest t xs (Next more s'') eu f h = cc
-    rest t xs (Jumps place) eu f h = cc
-    rest t xs (Enters result function arguments) eu f h = cc
-    rest t xs (Leaves value) eu f h = cc
+    rest t xs (Jumps place s) eu f h = cc
+    rest t xs (Enters result function arguments s) eu f h = cc
+    rest t xs (Leaves value s) eu f h = cc
 
     by : (t : Then) → then_next t (line p name is) ≡ Ends notes end w → ((t : Now) (more : List Note) → line p name is t ≡ Ends more end w → steps p (length is) (at name code frames (suc place) t) ≡ Stopped more end w) → go_on (proceed p (at name code frames place s) t) (steps p (length is)) ≡ Stopped notes end w
     by (Next xs t) f h = rest t xs (line p name is t) refl f (λ more. h t more)
@@ -158,6 +151,6 @@ line_ends p name code frames (i ∷ is) place s notes end w has e =
         let ex : x ≡ end = cc in
         let ev : v ≡ w = cc in
         ap (λ ns. Stopped ns x v) en ∙ ap (λ y. Stopped notes y v) ex ∙ ap (Stopped notes end) ev
-    by (Jumps place) f h = cc
-    by (Enters result function arguments) f h = cc
-    by (Leaves value) f h = cc
+    by (Jumps place s) f h = cc
+    by (Enters result function arguments s) f h = cc
+    by (Leaves value s) f h = cc

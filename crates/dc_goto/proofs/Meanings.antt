@@ -9,10 +9,14 @@ use Rattle.dc_num.specs.declared.operators.BinOp.{BinOp}
 use Rattle.dc_num.specs.declared.operators.BinOp.TheVariants.{Add, Sub, Mul, Div, Rem, Shl, Shr, And, Or, Xor, Lt, Le, Gt, Ge, Eq, Ne}
 use Rattle.dc_num.specs.declared.kind.NumKind.{NumKind}
 use Rattle.dc_num.specs.declared.kind.NumKind.TheVariants.{Bool as Truth, S8, U8, S16, U16, S32, U32, S64, U64, Ptr}
+use Rattle.dc_goto.specs.declared.operands.Bytes.{Bytes}
+use Rattle.dc_goto.specs.declared.operands.Bytes.TheVariants.{Zero, Chosen}
+use Rattle.dc_goto.specs.declared.operands.Sharing.{Sharing}
+use Rattle.dc_goto.specs.declared.operands.Sharing.TheVariants.{Any, Apart}
 use Rattle.dc_text.specs.Words.{same, is_digit, is_word, is_word_part}
-use Rattle.dc_goto.specs.Text.{kind_word, operator_word, number_word, register_word, result_word}
+use Rattle.dc_goto.specs.Text.{kind_word, operator_word, number_word, register_word, result_word, bytes_word, sharing_word}
 use Rattle.dc_goto.specs.Lines.{IsNumber, IsConstant, IsOptionalNumber, is_check_part, is_check_name, is_body_name}
-use Rattle.dc_goto.specs.Reading.{decimal_of, number_of, negative, constant_of, word_that, literal, kind_of, result_of, operator_of, register_of}
+use Rattle.dc_goto.specs.Reading.{decimal_of, number_of, negative, constant_of, word_that, literal, kind_of, result_of, operator_of, register_of, bytes_of, sharing_of, are_outside}
 use Rattle.dc_goto.proofs.Digits.{and_true, both_true, under_test, decimal_read, read_decimal, decimal_goes_on, decimal_begins}
 use Rattle.dc_goto.proofs.Pieces.{Means, goes_on, equal_bytes, same_self, by_word}
 
@@ -265,6 +269,67 @@ result_means = record { sound = sound; complete = complete; whole = whole }
     whole : (result : Option NumKind) → Unit {0} → list_all goes_on (result_word result) ≡ true
     whole None is = refl
     whole (Some kind) is = kind_means.whole kind tt
+
+pub bytes_means : Means bytes_of bytes_word IsAny
+bytes_means = record { sound = sound; complete = complete; whole = whole }
+  where
+    sound : (word : List ℕ) (a : Bytes) → bytes_of word ≡ Some a → (word ≡ bytes_word a) × Unit {0}
+    sound word a h =
+        by_word word (codes "zero") _ _ (Some a) ((word ≡ bytes_word a) × Unit {0}) h
+        (λ w e. (w ∙ ap (bytes_word) (some_is Zero a e), tt))
+        (λ h. by_word word (codes "chosen") _ _ (Some a) ((word ≡ bytes_word a) × Unit {0}) h
+        (λ w e. (w ∙ ap (bytes_word) (some_is Chosen a e), tt))
+        (λ h. cc))
+
+    complete : (a : Bytes) → Unit {0} → bytes_of (bytes_word a) ≡ Some a
+    complete Zero is = refl
+    complete Chosen is = refl
+
+    whole : (a : Bytes) → Unit {0} → list_all goes_on (bytes_word a) ≡ true
+    whole Zero is = refl
+    whole Chosen is = refl
+
+pub sharing_means : Means sharing_of sharing_word IsAny
+sharing_means = record { sound = sound; complete = complete; whole = whole }
+  where
+    sound : (word : List ℕ) (a : Sharing) → sharing_of word ≡ Some a → (word ≡ sharing_word a) × Unit {0}
+    sound word a h =
+        by_word word (codes "any") _ _ (Some a) ((word ≡ sharing_word a) × Unit {0}) h
+        (λ w e. (w ∙ ap (sharing_word) (some_is Any a e), tt))
+        (λ h. by_word word (codes "apart") _ _ (Some a) ((word ≡ sharing_word a) × Unit {0}) h
+        (λ w e. (w ∙ ap (sharing_word) (some_is Apart a e), tt))
+        (λ h. cc))
+
+    complete : (a : Sharing) → Unit {0} → sharing_of (sharing_word a) ≡ Some a
+    complete Any is = refl
+    complete Apart is = refl
+
+    whole : (a : Sharing) → Unit {0} → list_all goes_on (sharing_word a) ≡ true
+    whole Any is = refl
+    whole Apart is = refl
+
+abbrev pub sorts_word : Bool → List ℕ
+sorts_word true = codes "4"
+sorts_word false = codes "3"
+
+pub sorts_mean : Means are_outside sorts_word IsAny
+sorts_mean = record { sound = sound; complete = complete; whole = whole }
+  where
+    sound : (word : List ℕ) (a : Bool) → are_outside word ≡ Some a → (word ≡ sorts_word a) × Unit {0}
+    sound word a h =
+        by_word word (codes "4") _ _ (Some a) ((word ≡ sorts_word a) × Unit {0}) h
+        (λ w e. (w ∙ ap (sorts_word) (some_is true a e), tt))
+        (λ h. by_word word (codes "3") _ _ (Some a) ((word ≡ sorts_word a) × Unit {0}) h
+        (λ w e. (w ∙ ap (sorts_word) (some_is false a e), tt))
+        (λ h. cc))
+
+    complete : (a : Bool) → Unit {0} → are_outside (sorts_word a) ≡ Some a
+    complete true is = refl
+    complete false is = refl
+
+    whole : (a : Bool) → Unit {0} → list_all goes_on (sorts_word a) ≡ true
+    whole true is = refl
+    whole false is = refl
 
 pub register_means : Means register_of register_word IsOptionalNumber
 register_means = record { sound = sound; complete = complete; whole = whole }

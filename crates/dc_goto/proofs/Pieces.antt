@@ -6,7 +6,7 @@ use Rattle.std.proofs.lemmas.Bool.Decides.{nat_tests}
 use Rattle.std.specs.Cmp.Lexicographic.{bytes_decides}
 use Rattle.dc_text.specs.Words.{same}
 use Rattle.dc_goto.specs.Text.{spaced}
-use Rattle.dc_goto.specs.Reading.{Reading, got, then_read, behind_byte, spaced_read, begins_with, ends_word, word_len, front_word, behind_word, given, read_word, read_one, read_two, read_three, read_four, read_many, read_all, read_list}
+use Rattle.dc_goto.specs.Reading.{Reading, got, then_read, behind_byte, spaced_read, begins_with, ends_word, word_len, front_word, behind_word, given, read_word, read_one, read_two, read_three, read_four, read_five, read_many, read_all, read_list}
 use Rattle.dc_goto.proofs.Digits.{and_true}
 
 -- Readings --------------------------------------------------------------------------------------------------------
@@ -135,12 +135,12 @@ word_reads {A} meaning text Is m =
 -- One behind another ------------------------------------------------------------------------------------------------
 
 -- behind a space: first one, then what follows it
-spaced_complete : {A B : Type 0} {read : List ℕ → Reading A} {text : A → List ℕ} {Is : A → Type 0} → Reads read text Is → (f : A → List ℕ → Reading B) (a : A) (tail rest : List ℕ) → Is a → Ends (tail ++ rest) → then_read (spaced_read read (32 ∷ ((text a ++ tail) ++ rest))) f ≡ f a (tail ++ rest)
+pub spaced_complete : {A B : Type 0} {read : List ℕ → Reading A} {text : A → List ℕ} {Is : A → Type 0} → Reads read text Is → (f : A → List ℕ → Reading B) (a : A) (tail rest : List ℕ) → Is a → Ends (tail ++ rest) → then_read (spaced_read read (32 ∷ ((text a ++ tail) ++ rest))) f ≡ f a (tail ++ rest)
 spaced_complete {A} {B} {read} {text} {Is} r f a tail rest is e =
     ap (λ bytes. then_read (read bytes) f) (append_assoc (text a) tail rest)
     ∙ then_got (read (text a ++ (tail ++ rest))) f a (tail ++ rest) (r.complete a (tail ++ rest) is e)
 
-spaced_sound : {A B : Type 0} {read : List ℕ → Reading A} {text : A → List ℕ} {Is : A → Type 0} → Reads read text Is → (f : A → List ℕ → Reading B) (bytes rest : List ℕ) (b : B) → then_read (spaced_read read bytes) f ≡ got b rest
+pub spaced_sound : {A B : Type 0} {read : List ℕ → Reading A} {text : A → List ℕ} {Is : A → Type 0} → Reads read text Is → (f : A → List ℕ → Reading B) (bytes rest : List ℕ) (b : B) → then_read (spaced_read read bytes) f ≡ got b rest
     → (P : List ℕ → B → Type 0) → ((a : A) (middle : List ℕ) → Is a → f a middle ≡ got b rest → P (32 ∷ (text a ++ middle)) b) → P bytes b
 spaced_sound {A} {B} {read} {text} {Is} r f bytes rest b h P go =
     let p = then_parts (spaced_read read bytes) f b rest h in
@@ -195,6 +195,18 @@ four_sound {A} {B} {C} {D} {E} {ra} {ta} {Ia} {rb} {tb} {Ib} {rc} {tc} {Ic} {rd}
     three_sound s t u (f a) middle rest v h (λ bytes v. P (32 ∷ (ta a ++ bytes)) v) (λ b c d ib ic ie.
     subst (λ bytes. P (32 ∷ bytes) (f a b c d)) (append_assoc (ta a) (spaced (tb b ∷ tc c ∷ td d ∷ [])) rest) (go a b c d ia ib ic ie)))
 
+pub five_complete : {A B C D E F : Type 0} {ra : List ℕ → Reading A} {ta : A → List ℕ} {Ia : A → Type 0} {rb : List ℕ → Reading B} {tb : B → List ℕ} {Ib : B → Type 0} {rc : List ℕ → Reading C} {tc : C → List ℕ} {Ic : C → Type 0} {rd : List ℕ → Reading D} {td : D → List ℕ} {Id_ : D → Type 0} {re : List ℕ → Reading E} {te : E → List ℕ} {Ie : E → Type 0} → Reads ra ta Ia → Reads rb tb Ib → Reads rc tc Ic → Reads rd td Id_ → Reads re te Ie → (f : A → B → C → D → E → F) (a : A) (b : B) (c : C) (d : D) (e : E) (rest : List ℕ) → Ia a → Ib b → Ic c → Id_ d → Ie e → Ends rest
+    → read_five ra rb rc rd re f (spaced (ta a ∷ tb b ∷ tc c ∷ td d ∷ te e ∷ []) ++ rest) ≡ got (f a b c d e) rest
+five_complete {A} {B} {C} {D} {E} {F} {ra} {ta} {Ia} {rb} {tb} {Ib} {rc} {tc} {Ic} {rd} {td} {Id_} {re} {te} {Ie} r s t u v f a b c d e rest ia ib ic id_ ie ends =
+    spaced_complete r (λ a. read_four rb rc rd re (f a)) a (spaced (tb b ∷ tc c ∷ td d ∷ te e ∷ [])) rest ia refl ∙ four_complete s t u v (f a) b c d e rest ib ic id_ ie ends
+
+pub five_sound : {A B C D E F : Type 0} {ra : List ℕ → Reading A} {ta : A → List ℕ} {Ia : A → Type 0} {rb : List ℕ → Reading B} {tb : B → List ℕ} {Ib : B → Type 0} {rc : List ℕ → Reading C} {tc : C → List ℕ} {Ic : C → Type 0} {rd : List ℕ → Reading D} {td : D → List ℕ} {Id_ : D → Type 0} {re : List ℕ → Reading E} {te : E → List ℕ} {Ie : E → Type 0} → Reads ra ta Ia → Reads rb tb Ib → Reads rc tc Ic → Reads rd td Id_ → Reads re te Ie → (f : A → B → C → D → E → F) (bytes rest : List ℕ) (w : F) → read_five ra rb rc rd re f bytes ≡ got w rest
+    → (P : List ℕ → F → Type 0) → ((a : A) (b : B) (c : C) (d : D) (e : E) → Ia a → Ib b → Ic c → Id_ d → Ie e → P (spaced (ta a ∷ tb b ∷ tc c ∷ td d ∷ te e ∷ []) ++ rest) (f a b c d e)) → P bytes w
+five_sound {A} {B} {C} {D} {E} {F} {ra} {ta} {Ia} {rb} {tb} {Ib} {rc} {tc} {Ic} {rd} {td} {Id_} {re} {te} {Ie} r s t u v f bytes rest w h P go =
+    spaced_sound r (λ a. read_four rb rc rd re (f a)) bytes rest w h P (λ a middle ia h.
+    four_sound s t u v (f a) middle rest w h (λ bytes w. P (32 ∷ (ta a ++ bytes)) w) (λ b c d e ib ic id_ ie.
+    subst (λ bytes. P (32 ∷ bytes) (f a b c d e)) (append_assoc (ta a) (spaced (tb b ∷ tc c ∷ td d ∷ te e ∷ [])) rest) (go a b c d e ia ib ic id_ ie)))
+
 -- As many as stand there --------------------------------------------------------------------------------------------
 
 many_complete : {A : Type 0} {read : List ℕ → Reading A} {text : A → List ℕ} {Is : A → Type 0} → Reads read text Is → (items more : List A) (n : ℕ) (rest : List ℕ) → AllByRecursion Is more → begins_with 32 rest ≡ false → Ends rest → length (spaced (map text more) ++ rest) ≤ n
@@ -206,18 +218,23 @@ many_complete {A} {read} {text} {Is} r items [] (suc n) rest is stops e le =
     ∙ ap (λ l. got l rest) (sym (append-nil items))
 many_complete {A} {read} {text} {Is} r items (a ∷ more) zero rest is stops e le = absurd (omega arith)
 many_complete {A} {read} {text} {Is} r items (a ∷ more) (suc n) rest is stops e le =
-    spaced_complete r (λ a. read_many read n (items ++ a ∷ [])) a (spaced (map text more)) rest is.0 (ends_behind more)
+    spaced_complete r (λ a. read_many read n (items ++ a ∷ [])) a (spaced (map text more)) rest is.0 (behind more)
     ∙ many_complete r (items ++ a ∷ []) more n rest is.1 stops e shorter
     ∙ ap (λ l. got l rest) (append_assoc items (a ∷ []) more)
   where
-    ends_behind : (more : List A) → Ends (spaced (map text more) ++ rest)
-    ends_behind [] = e
-    ends_behind (b ∷ more) = refl
+    behind : (more : List A) → Ends (spaced (map text more) ++ rest)
+    behind [] = e
+    behind (b ∷ more) = refl
 
     shorter : length (spaced (map text more) ++ rest) ≤ n
     shorter =
         let p : length ((text a ++ spaced (map text more)) ++ rest) ≡ length (text a) + length (spaced (map text more) ++ rest) = ap length (append_assoc (text a) (spaced (map text more)) rest) ∙ length-append (text a) (spaced (map text more) ++ rest) in
         omega (arith, le, p)
+
+-- a word ends before others, or at the rest
+pub ends_behind : {A : Type 0} (text : A → List ℕ) (items : List A) (rest : List ℕ) → Ends rest → Ends (spaced (map text items) ++ rest)
+ends_behind text [] rest e = e
+ends_behind text (a ∷ items) rest e = refl
 
 -- as many as were read
 pub record Listed {A : Type 0} (text : A → List ℕ) (Is : A → Type 0) (items all : List A) (bytes rest : List ℕ) : Type 0 where
@@ -249,30 +266,35 @@ many_sound {A} {read} {text} {Is} r (suc n) items all bytes rest h =
         let p = got_parts items all bytes rest h in
         record { more = []; whole = sym p.0 ∙ sym (append-nil items); each = tt; spelt = p.1 }
 
+-- as many as stand there, in front of what is none
+pub all_complete : {A B : Type 0} {read : List ℕ → Reading A} {text : A → List ℕ} {Is : A → Type 0} → Reads read text Is → (f : List A → B) (items : List A) (rest : List ℕ) → AllByRecursion Is items → begins_with 32 rest ≡ false → Ends rest
+    → read_all read f (spaced (map text items) ++ rest) ≡ got (f items) rest
+all_complete {A} {B} {read} {text} {Is} r f items rest is stops e =
+    let bytes = spaced (map text items) ++ rest in
+    then_got (read_many read (length bytes) [] bytes) (λ items. got (f items)) items rest (many_complete r [] items (length bytes) rest is stops e (omega arith))
+
+pub all_sound : {A B : Type 0} {read : List ℕ → Reading A} {text : A → List ℕ} {Is : A → Type 0} → Reads read text Is → (f : List A → B) (bytes rest : List ℕ) (b : B) → read_all read f bytes ≡ got b rest
+    → (P : List ℕ → B → Type 0) → ((items : List A) → AllByRecursion Is items → P (spaced (map text items) ++ rest) (f items)) → P bytes b
+all_sound {A} {B} {read} {text} {Is} r f bytes rest b h P go =
+    let p = then_parts (read_many read (length bytes) [] bytes) (λ items. got (f items)) b rest h in
+    let l = many_sound r (length bytes) [] p.value bytes p.middle p.first in
+    let q = got_parts (f p.value) b p.middle rest p.second in
+    let spelt : bytes ≡ spaced (map text l.more) ++ rest = l.spelt ∙ ap (λ r. spaced (map text l.more) ++ r) q.1 in
+    let value : f l.more ≡ b = ap f (sym l.whole) ∙ q.0 in
+    subst (λ b. P bytes b) value (subst (λ bytes. P bytes (f l.more)) (sym spelt) (go l.more l.each))
+
 pub list_complete : {A B C D : Type 0} {ra : List ℕ → Reading A} {ta : A → List ℕ} {Ia : A → Type 0} {rb : List ℕ → Reading B} {tb : B → List ℕ} {Ib : B → Type 0} {rc : List ℕ → Reading C} {tc : C → List ℕ} {Ic : C → Type 0} → Reads ra ta Ia → Reads rb tb Ib → Reads rc tc Ic → (f : A → B → List C → D) (a : A) (b : B) (cs : List C) (rest : List ℕ) → Ia a → Ib b → AllByRecursion Ic cs → begins_with 32 rest ≡ false → Ends rest
     → read_list ra rb rc f (spaced (ta a ∷ tb b ∷ map tc cs) ++ rest) ≡ got (f a b cs) rest
 list_complete {A} {B} {C} {D} {ra} {ta} {Ia} {rb} {tb} {Ib} {rc} {tc} {Ic} r s t f a b cs rest ia ib ics stops e =
-    let bytes = spaced (map tc cs) ++ rest in
     spaced_complete r (λ a bytes. then_read (spaced_read rb bytes) (λ b. read_all rc (f a b))) a (spaced (tb b ∷ map tc cs)) rest ia refl
-    ∙ spaced_complete s (λ b. read_all rc (f a b)) b (spaced (map tc cs)) rest ib (ends_behind cs)
-    ∙ then_got (read_many rc (length bytes) [] bytes) (λ items. got (f a b items)) cs rest (many_complete t [] cs (length bytes) rest ics stops e (omega arith))
-  where
-    ends_behind : (more : List C) → Ends (spaced (map tc more) ++ rest)
-    ends_behind [] = e
-    ends_behind (b ∷ more) = refl
+    ∙ spaced_complete s (λ b. read_all rc (f a b)) b (spaced (map tc cs)) rest ib (ends_behind tc cs rest e)
+    ∙ all_complete t (f a b) cs rest ics stops e
 
 pub list_sound : {A B C D : Type 0} {ra : List ℕ → Reading A} {ta : A → List ℕ} {Ia : A → Type 0} {rb : List ℕ → Reading B} {tb : B → List ℕ} {Ib : B → Type 0} {rc : List ℕ → Reading C} {tc : C → List ℕ} {Ic : C → Type 0} → Reads ra ta Ia → Reads rb tb Ib → Reads rc tc Ic → (f : A → B → List C → D) (bytes rest : List ℕ) (d : D) → read_list ra rb rc f bytes ≡ got d rest
     → (P : List ℕ → D → Type 0) → ((a : A) (b : B) (cs : List C) → Ia a → Ib b → AllByRecursion Ic cs → P (spaced (ta a ∷ tb b ∷ map tc cs) ++ rest) (f a b cs)) → P bytes d
 list_sound {A} {B} {C} {D} {ra} {ta} {Ia} {rb} {tb} {Ib} {rc} {tc} {Ic} r s t f bytes rest d h P go =
     spaced_sound r (λ a bytes. then_read (spaced_read rb bytes) (λ b. read_all rc (f a b))) bytes rest d h P (λ a middle ia h.
     spaced_sound s (λ b. read_all rc (f a b)) middle rest d h (λ bytes d. P (32 ∷ (ta a ++ bytes)) d) (λ b last ib h.
-    let p = then_parts (read_many rc (length last) [] last) (λ items. got (f a b items)) d rest h in
-    let l = many_sound t (length last) [] p.value last p.middle p.first in
-    let q = got_parts (f a b p.value) d p.middle rest p.second in
-    let spelt : last ≡ spaced (map tc l.more) ++ rest = l.spelt ∙ ap (λ r. spaced (map tc l.more) ++ r) q.1 in
-    let value : f a b l.more ≡ d = ap (f a b) (sym l.whole) ∙ q.0 in
-    let whole : spaced (ta a ∷ tb b ∷ map tc l.more) ++ rest ≡ 32 ∷ (ta a ++ (32 ∷ (tb b ++ last))) =
-    ap (λ l. 32 ∷ l) (append_assoc (ta a) (spaced (tb b ∷ map tc l.more)) rest
-    ∙ ap (λ l. ta a ++ (32 ∷ l)) (append_assoc (tb b) (spaced (map tc l.more)) rest ∙ ap (λ r. tb b ++ r) (sym spelt))) in
-    subst (λ d. P (32 ∷ (ta a ++ (32 ∷ (tb b ++ last)))) d) value
-    (subst (λ bytes. P bytes (f a b l.more)) whole (go a b l.more ia ib l.each))))
+    all_sound t (f a b) last rest d h (λ bytes d. P (32 ∷ (ta a ++ (32 ∷ (tb b ++ bytes)))) d) (λ cs ics.
+    subst (λ bytes. P (32 ∷ bytes) (f a b cs))
+    (append_assoc (ta a) (spaced (tb b ∷ map tc cs)) rest ∙ ap (λ l. ta a ++ (32 ∷ l)) (append_assoc (tb b) (spaced (map tc cs)) rest)) (go a b cs ia ib ics))))

@@ -1,9 +1,9 @@
 -- The lines of a goto text, and which bytes are one.
 use Rattle.std.specs.Prelude.{◌≡◌, ◌≢◌, ℕ, suc, ◌^◌, ◌<◌, ◌≤◌, max, ℤ, pos, negsuc, Bool, true, false, ◌&&◌, ◌||◌, ◌==◌, List, [], ◌∷◌, ◌++◌, length, map, flat_map, codes, Option, None, Some}
 use Rattle.std.specs.List.{list_all, AllByRecursion}
-use Rattle.dc_core.specs.Term.{Term, Constant, Register, Object, Load, Convert, Unary, Binary, Lazy, Choice}
+use Rattle.dc_core.specs.Term.{Term, Constant, Register, Variable, Object, Load, Convert, Unary, Binary, Lazy, Choice, Moved, Distance, Asked, Tested, Between, Quantified}
 use Rattle.dc_text.specs.Words.{same, is_word, is_word_part}
-use Rattle.dc_goto.specs.Program.{Instr, Set, Keep, Store, Init, LocalZero, Kill, Covers, Call, Return, Trap, Goto, IfNot, Statics, OutsideObjects, Draw, Seen, Assert, Assume, Require, Push, Range, Check, Pop, Sig, StaticVar, Body, GotoProgram}
+use Rattle.dc_goto.specs.Program.{Instr, Set, Keep, Draw, Store, Init, Copy, Fill, Probe, Local, Kill, Alloc, Free, Trap, Goto, IfNot, Call, CallThrough, Return, Assert, Check, Assume, Require, Push, Pop, Range, Target, Covers, MayFree, Inside, Seen, Havoc, Frees, Statics, OutsideObjects, NewObjects, Sig, StaticVar, Body, GotoProgram}
 use Rattle.dc_goto.specs.Text.{sig_line, static_line, body_lines, instr_line, line_bytes}
 
 -- the first line of a body: its name, and the numbers of its parameters and registers
@@ -68,6 +68,7 @@ IsConstant (negsuc n) = n < 2 ^ 127
 abbrev pub HasNumbers : Term → Type 0
 HasNumbers (Constant kind z) = IsConstant z
 HasNumbers (Register r) = IsNumber r
+HasNumbers (Variable d) = IsNumber d
 HasNumbers (Object n) = IsNumber n
 HasNumbers (Load kind a) = HasNumbers a
 HasNumbers (Convert to from e) = HasNumbers e
@@ -75,11 +76,18 @@ HasNumbers (Unary op kind e) = HasNumbers e
 HasNumbers (Binary op kind a b) = HasNumbers a × HasNumbers b
 HasNumbers (Lazy op a b) = HasNumbers a × HasNumbers b
 HasNumbers (Choice a b c) = HasNumbers a × HasNumbers b × HasNumbers c
+HasNumbers (Moved size p n) = IsNumber size × HasNumbers p × HasNumbers n
+HasNumbers (Distance size p q) = IsNumber size × HasNumbers p × HasNumbers q
+HasNumbers (Asked of p) = HasNumbers p
+HasNumbers (Tested test p n) = HasNumbers p × HasNumbers n
+HasNumbers (Between a b c) = HasNumbers a × HasNumbers b × HasNumbers c
+HasNumbers (Quantified q d kind a b c) = IsNumber d × HasNumbers a × HasNumbers b × HasNumbers c
 
 -- 1, and one more than the greatest height of the parts
 abbrev pub height : Term → ℕ
 height (Constant kind z) = 1
 height (Register r) = 1
+height (Variable d) = 1
 height (Object n) = 1
 height (Load kind a) = suc (height a)
 height (Convert to from e) = suc (height e)
@@ -87,6 +95,12 @@ height (Unary op kind e) = suc (height e)
 height (Binary op kind a b) = suc (max (height a) (height b))
 height (Lazy op a b) = suc (max (height a) (height b))
 height (Choice a b c) = suc (max (height a) (max (height b) (height c)))
+height (Moved size p n) = suc (max (height p) (height n))
+height (Distance size p q) = suc (max (height p) (height q))
+height (Asked of p) = suc (height p)
+height (Tested test p n) = suc (max (height p) (height n))
+height (Between a b c) = suc (max (height a) (max (height b) (height c)))
+height (Quantified q d kind a b c) = suc (max (height a) (max (height b) (height c)))
 
 -- expressions are at most that high
 unfoldable pub height_limit : ℕ
@@ -118,31 +132,47 @@ abbrev pub IsOptionalTerm : Option Term → Type 0
 IsOptionalTerm None = Unit {0}
 IsOptionalTerm (Some t) = IsTerm t
 
+-- the name of a check
+abbrev pub IsCheckName : List ℕ → Type 0
+IsCheckName name = is_check_name name ≡ true
+
 -- an instruction that may stand in a line
 abbrev pub IsInstr : Instr → Type 0
 IsInstr (Set r e) = IsNumber r × IsTerm e
 IsInstr (Keep r e) = IsNumber r × IsTerm e
+IsInstr (Draw r kind) = IsNumber r
 IsInstr (Store kind a e) = IsTerm a × IsTerm e
 IsInstr (Init kind a e) = IsTerm a × IsTerm e
-IsInstr (LocalZero r size) = IsNumber r × IsNumber size
+IsInstr (Copy a b n) = IsTerm a × IsTerm b × IsTerm n
+IsInstr (Fill a e n) = IsTerm a × IsTerm e × IsTerm n
+IsInstr (Probe sharing a b n) = IsTerm a × IsTerm b × IsTerm n
+IsInstr (Local r size bytes) = IsNumber r × IsNumber size
 IsInstr (Kill m) = IsNumber m
-IsInstr (Covers name a n) = (is_check_name name ≡ true) × IsTerm a × IsTerm n
-IsInstr (Call r name arguments) = IsOptionalNumber r × (is_word name ≡ true) × AllByRecursion IsTerm arguments
-IsInstr (Return value) = IsOptionalTerm value
+IsInstr (Alloc r n m bytes) = IsNumber r × IsTerm n × IsTerm m
+IsInstr (Free p) = IsTerm p
 IsInstr Trap = Unit {0}
 IsInstr (Goto place) = IsNumber place
 IsInstr (IfNot e place) = IsTerm e × IsNumber place
-IsInstr Statics = Unit {0}
-IsInstr OutsideObjects = Unit {0}
-IsInstr (Draw r kind) = IsNumber r
-IsInstr Seen = Unit {0}
-IsInstr (Assert name e) = (is_check_name name ≡ true) × IsTerm e
+IsInstr (Call r name arguments) = IsOptionalNumber r × (is_word name ≡ true) × AllByRecursion IsTerm arguments
+IsInstr (CallThrough r e result params arguments) = IsOptionalNumber r × IsTerm e × AllByRecursion IsTerm arguments
+IsInstr (Return value) = IsOptionalTerm value
+IsInstr (Assert name e) = IsCheckName name × IsTerm e
+IsInstr (Check name e) = IsCheckName name × IsTerm e
 IsInstr (Assume e) = IsTerm e
 IsInstr (Require e) = IsTerm e
 IsInstr Push = Unit {0}
-IsInstr (Range tag e a n) = IsNumber tag × IsTerm e × IsTerm a × IsTerm n
-IsInstr (Check name e) = (is_check_name name ≡ true) × IsTerm e
 IsInstr Pop = Unit {0}
+IsInstr (Range tag e a n) = IsNumber tag × IsTerm e × IsTerm a × IsTerm n
+IsInstr (Target tag e p) = IsNumber tag × IsTerm e × IsTerm p
+IsInstr (Covers name a n) = IsCheckName name × IsTerm a × IsTerm n
+IsInstr (MayFree name p) = IsCheckName name × IsTerm p
+IsInstr (Inside name tag) = IsCheckName name × IsNumber tag
+IsInstr Seen = Unit {0}
+IsInstr Havoc = Unit {0}
+IsInstr Frees = Unit {0}
+IsInstr Statics = Unit {0}
+IsInstr OutsideObjects = Unit {0}
+IsInstr NewObjects = Unit {0}
 
 -- a line form
 abbrev pub IsForm : Line → Type 0

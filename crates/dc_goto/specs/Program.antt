@@ -2,31 +2,52 @@
 use Rattle.std.specs.Prelude.{ℕ, List, Option}
 use Rattle.dc_core.specs.Term.{Term}
 use Rattle.dc_num.specs.declared.kind.NumKind.{NumKind}
+use Rattle.dc_goto.specs.declared.operands.Bytes.{Bytes}
+use Rattle.dc_goto.specs.declared.operands.Sharing.{Sharing}
 
 pub data Instr : Type 0 where
+  -- registers
   Set : (register : ℕ) (value : Term) → Instr
   Keep : (register : ℕ) (value : Term) → Instr
+  Draw : (register : ℕ) (kind : NumKind) → Instr
+  -- bytes of objects
   Store : (kind : NumKind) (address value : Term) → Instr
   Init : (kind : NumKind) (address value : Term) → Instr
-  LocalZero : (register size : ℕ) → Instr
+  Copy : (to from len : Term) → Instr
+  Fill : (to byte len : Term) → Instr
+  Probe : (sharing : Sharing) (one other len : Term) → Instr
+  -- objects
+  Local : (register size : ℕ) (bytes : Bytes) → Instr
   Kill : (locals : ℕ) → Instr
-  Covers : (name : List ℕ) (address len : Term) → Instr
-  Call : (register : Option ℕ) (name : List ℕ) (arguments : List Term) → Instr
-  Return : (value : Option Term) → Instr
+  Alloc : (register : ℕ) (count size : Term) (bytes : Bytes) → Instr
+  Free : (pointer : Term) → Instr
+  -- where the run goes on
   Trap : Instr
   Goto : (place : ℕ) → Instr
   IfNot : (test : Term) (place : ℕ) → Instr
-  Statics : Instr
-  OutsideObjects : Instr
-  Draw : (register : ℕ) (kind : NumKind) → Instr
-  Seen : Instr
+  Call : (register : Option ℕ) (name : List ℕ) (arguments : List Term) → Instr
+  CallThrough : (register : Option ℕ) (pointer : Term) (result : Option NumKind) (params : List NumKind) (arguments : List Term) → Instr
+  Return : (value : Option Term) → Instr
+  -- tests
   Assert : (name : List ℕ) (test : Term) → Instr
+  Check : (name : List ℕ) (test : Term) → Instr
   Assume : (test : Term) → Instr
   Require : (test : Term) → Instr
+  -- write sets
   Push : Instr
-  Range : (tag : ℕ) (condition address len : Term) → Instr
-  Check : (name : List ℕ) (test : Term) → Instr
   Pop : Instr
+  Range : (tag : ℕ) (condition address len : Term) → Instr
+  Target : (tag : ℕ) (condition pointer : Term) → Instr
+  Covers : (name : List ℕ) (address len : Term) → Instr
+  MayFree : (name : List ℕ) (pointer : Term) → Instr
+  Inside : (name : List ℕ) (tag : ℕ) → Instr
+  Seen : Instr
+  Havoc : Instr
+  Frees : Instr
+  -- the outside
+  Statics : Instr
+  OutsideObjects : Instr
+  NewObjects : Instr
 
 -- a function: its name, the kind of its result if it has one, and the kinds of its parameters
 pub record Sig : Type 0 where

@@ -7,9 +7,16 @@ use Rattle.dc_num.specs.declared.kind.NumKind.{NumKind}
 use Rattle.dc_num.specs.declared.kind.NumKind.TheVariants.{Bool as Truth, S8, U8, S16, U16, S32, U32, S64, U64, Ptr}
 use Rattle.dc_num.specs.declared.operators.UnOp.TheVariants.{Neg, Not}
 use Rattle.dc_core.specs.declared.operators.LazyOp.TheVariants.{Both, Either}
-use Rattle.dc_core.specs.Term.{Term, Constant, Register, Object, Load, Convert, Unary, Binary, Lazy, Choice}
+use Rattle.dc_core.specs.declared.operators.Property.TheVariants.{Start, Size, Offset, Freeable, Freed}
+use Rattle.dc_core.specs.declared.operators.RangeTest.TheVariants.{Accessible, Fresh, New}
+use Rattle.dc_core.specs.declared.operators.Quantifier.TheVariants.{ForAll, Exists}
+use Rattle.dc_core.specs.Term.{Term, Constant, Register, Variable, Object, Load, Convert, Unary, Binary, Lazy, Choice, Moved, Distance, Asked, Tested, Between, Quantified}
 use Rattle.dc_text.specs.Words.{same, is_digit, is_word}
-use Rattle.dc_goto.specs.Program.{Instr, Set, Keep, Store, Init, LocalZero, Kill, Covers, Call, Return, Trap, Goto, IfNot, Statics, OutsideObjects, Draw, Seen, Assert, Assume, Require, Push, Range, Check, Pop}
+use Rattle.dc_goto.specs.Program.{Instr, Set, Keep, Draw, Store, Init, Copy, Fill, Probe, Local, Kill, Alloc, Free, Trap, Goto, IfNot, Call, CallThrough, Return, Assert, Check, Assume, Require, Push, Pop, Range, Target, Covers, MayFree, Inside, Seen, Havoc, Frees, Statics, OutsideObjects, NewObjects}
+use Rattle.dc_goto.specs.declared.operands.Bytes.{Bytes}
+use Rattle.dc_goto.specs.declared.operands.Bytes.TheVariants.{Zero, Chosen}
+use Rattle.dc_goto.specs.declared.operands.Sharing.{Sharing}
+use Rattle.dc_goto.specs.declared.operands.Sharing.TheVariants.{Any, Apart}
 use Rattle.dc_goto.specs.Lines.{Line, Version, Function, Static, Opening, Instruction, End, height_limit, is_check_name, is_body_name}
 
 abbrev pub Reading : Type 0 → Type 0
@@ -142,6 +149,18 @@ operator_of word =
     else if same word (codes "ne") then Some Ne
     else None
 
+abbrev pub bytes_of : List ℕ → Option Bytes
+bytes_of word =
+    if same word (codes "zero") then Some Zero
+    else if same word (codes "chosen") then Some Chosen
+    else None
+
+abbrev pub sharing_of : List ℕ → Option Sharing
+sharing_of word =
+    if same word (codes "any") then Some Any
+    else if same word (codes "apart") then Some Apart
+    else None
+
 -- a register that may be left away
 abbrev pub register_of : List ℕ → Option (Option ℕ)
 register_of word = if same word (codes "-") then Some None else option_map Some (number_of word)
@@ -159,6 +178,9 @@ read_three first second third f bytes = then_read (spaced_read first bytes) (λ 
 
 abbrev pub read_four : {A B C D E : Type 0} → (List ℕ → Reading A) → (List ℕ → Reading B) → (List ℕ → Reading C) → (List ℕ → Reading D) → (A → B → C → D → E) → List ℕ → Reading E
 read_four first second third fourth f bytes = then_read (spaced_read first bytes) (λ a. read_three second third fourth (f a))
+
+abbrev pub read_five : {A B C D E F : Type 0} → (List ℕ → Reading A) → (List ℕ → Reading B) → (List ℕ → Reading C) → (List ℕ → Reading D) → (List ℕ → Reading E) → (A → B → C → D → E → F) → List ℕ → Reading F
+read_five first second third fourth fifth f bytes = then_read (spaced_read first bytes) (λ a. read_four second third fourth fifth (f a))
 
 -- as many as stand there, at most n, behind others
 unfoldable pub read_many : {A : Type 0} → (List ℕ → Reading A) → ℕ → List A → List ℕ → Reading (List A)
@@ -195,14 +217,38 @@ read_constant (Some kind) bytes = read_one (read_word constant_of) (Constant kin
 abbrev pub read_leaf : List ℕ → List ℕ → Reading Term
 read_leaf word bytes =
     if same word (codes "reg") then read_one read_number Register bytes
+    else if same word (codes "var") then read_one read_number Variable bytes
     else if same word (codes "obj") then read_one read_number Object bytes
     else read_constant (kind_of word) bytes
 
+-- of pointers and their objects, behind the first word
+abbrev pub read_placed : (List ℕ → Reading Term) → List ℕ → List ℕ → Reading Term
+read_placed again word bytes =
+    if same word (codes "at") then read_three read_number again again Moved bytes
+    else if same word (codes "diff") then read_three read_number again again Distance bytes
+    else if same word (codes "start") then read_one again (Asked Start) bytes
+    else if same word (codes "size") then read_one again (Asked Size) bytes
+    else if same word (codes "offset") then read_one again (Asked Offset) bytes
+    else if same word (codes "freeable") then read_one again (Asked Freeable) bytes
+    else if same word (codes "freed") then read_one again (Asked Freed) bytes
+    else read_leaf word bytes
+
+-- predicates and quantifiers, behind the first word
+abbrev pub read_claimed : (List ℕ → Reading Term) → List ℕ → List ℕ → Reading Term
+read_claimed again word bytes =
+    if same word (codes "ok") then read_two again again (Tested Accessible) bytes
+    else if same word (codes "fresh") then read_two again again (Tested Fresh) bytes
+    else if same word (codes "new") then read_two again again (Tested New) bytes
+    else if same word (codes "inrange") then read_three again again again Between bytes
+    else if same word (codes "forall") then read_five read_number read_kind again again again (Quantified ForAll) bytes
+    else if same word (codes "exists") then read_five read_number read_kind again again again (Quantified Exists) bytes
+    else read_placed again word bytes
+
 abbrev pub read_operated : (List ℕ → Reading Term) → Option BinOp → List ℕ → List ℕ → Reading Term
-read_operated again None word bytes = read_leaf word bytes
+read_operated again None word bytes = read_claimed again word bytes
 read_operated again (Some op) word bytes = read_three read_kind again again (Binary op) bytes
 
--- with expressions in it and no operator of two kinded operands, else any other, behind the first word
+-- behind the first word, with a reader of the parts
 abbrev pub read_opened : (List ℕ → Reading Term) → List ℕ → List ℕ → Reading Term
 read_opened again word bytes =
     if same word (codes "load") then read_two read_kind again Load bytes
@@ -214,7 +260,7 @@ read_opened again word bytes =
     else if same word (codes "if") then read_three again again again Choice bytes
     else read_operated again (operator_of word) word bytes
 
-abbrev pub closed : Reading Term → Reading Term
+abbrev pub closed : {A : Type 0} → Reading A → Reading A
 closed reading = then_read reading (λ t bytes. behind_byte 41 bytes (got t))
 
 abbrev pub read_parenthesised : (List ℕ → Reading Term) → List ℕ → Reading Term
@@ -232,49 +278,97 @@ read_low bytes = read_term height_limit bytes
 
 -- Instructions, behind their first words ---------------------------------------------------------------------------
 
-abbrev pub read_local : List ℕ → Reading Instr
-read_local bytes =
-    read_three read_number read_number (read_word (literal (codes "zero"))) (λ r size zeros. LocalZero r size) bytes
+-- the signature of a call through a pointer: the kind of the result, if there is one, and those of the parameters
+pub record Signature : Type 0 where
+  pub result : Option NumKind
+  pub params : List NumKind
+
+abbrev pub signature_of : Option NumKind → List NumKind → Signature
+signature_of result params = record { result = result; params = params }
+
+-- behind `(sig`
+abbrev pub read_kinds : List ℕ → Reading Signature
+read_kinds bytes = then_read (spaced_read (read_word result_of) bytes) (λ result. read_all read_kind (signature_of result))
+
+abbrev pub read_signature : List ℕ → Reading Signature
+read_signature bytes =
+    behind_byte 40 bytes (λ bytes. closed (then_read (read_word (literal (codes "sig")) bytes) (λ sig. read_kinds)))
+
+-- behind the word of a call through a pointer
+abbrev pub read_call_through : List ℕ → Reading Instr
+read_call_through bytes =
+    then_read (spaced_read (read_word register_of) bytes) (λ r bytes.
+    then_read (spaced_read read_low bytes) (λ e bytes.
+    then_read (spaced_read read_signature bytes) (λ sig. read_all read_low (CallThrough r e sig.result sig.params))))
 
 abbrev pub read_return : List ℕ → Reading Instr
 read_return bytes =
     if begins_with 32 bytes then read_one read_low (λ e. Return (Some e)) bytes else got (Return None) bytes
 
+-- outside objects have four sorts, new ones three
+abbrev pub are_outside : List ℕ → Option Bool
+are_outside word =
+    if same word (codes "4") then Some true
+    else if same word (codes "3") then Some false
+    else None
+
+abbrev pub drawn_objects : Bool → Instr
+drawn_objects true = OutsideObjects
+drawn_objects false = NewObjects
+
 abbrev pub read_objects : List ℕ → Reading Instr
-read_objects bytes = read_one (read_word (literal (codes "4"))) (λ four. OutsideObjects) bytes
+read_objects bytes = read_one (read_word are_outside) drawn_objects bytes
+
+abbrev pub read_check_name : List ℕ → Reading (List ℕ)
+read_check_name bytes = read_name is_check_name bytes
 
 -- write sets
-abbrev pub read_mark : List ℕ → List ℕ → Reading Instr
-read_mark word bytes =
-    if same word (codes "covers") then read_three (read_name is_check_name) read_low read_low Covers bytes
-    else if same word (codes "range") then read_four read_number read_low read_low read_low Range bytes
-    else if same word (codes "seen") then got Seen bytes
-    else if same word (codes "push") then got Push bytes
+abbrev pub read_set_word : List ℕ → List ℕ → Reading Instr
+read_set_word word bytes =
+    if same word (codes "push") then got Push bytes
     else if same word (codes "pop") then got Pop bytes
+    else if same word (codes "range") then read_four read_number read_low read_low read_low Range bytes
+    else if same word (codes "target") then read_three read_number read_low read_low Target bytes
+    else if same word (codes "covers") then read_three read_check_name read_low read_low Covers bytes
+    else if same word (codes "mayfree") then read_two read_check_name read_low MayFree bytes
+    else if same word (codes "inside") then read_two read_check_name read_number Inside bytes
+    else if same word (codes "seen") then got Seen bytes
+    else if same word (codes "havoc") then got Havoc bytes
+    else if same word (codes "frees") then got Frees bytes
     else None
 
 -- tests and the outside
 abbrev pub read_test : List ℕ → List ℕ → Reading Instr
 read_test word bytes =
-    if same word (codes "assert") then read_two (read_name is_check_name) read_low Assert bytes
-    else if same word (codes "check") then read_two (read_name is_check_name) read_low Check bytes
+    if same word (codes "assert") then read_two read_check_name read_low Assert bytes
+    else if same word (codes "check") then read_two read_check_name read_low Check bytes
     else if same word (codes "assume") then read_one read_low Assume bytes
     else if same word (codes "require") then read_one read_low Require bytes
     else if same word (codes "statics") then got Statics bytes
     else if same word (codes "objects") then read_objects bytes
-    else read_mark word bytes
+    else read_set_word word bytes
 
 -- where the run goes on
 abbrev pub read_control : List ℕ → List ℕ → Reading Instr
 read_control word bytes =
-    if same word (codes "call") then read_list (read_word register_of) (read_name is_word) read_low Call bytes
-    else if same word (codes "return") then read_return bytes
-    else if same word (codes "trap") then got Trap bytes
+    if same word (codes "trap") then got Trap bytes
     else if same word (codes "goto") then read_one read_number Goto bytes
     else if same word (codes "ifnot") then read_two read_low read_number IfNot bytes
+    else if same word (codes "call") then read_list (read_word register_of) (read_name is_word) read_low Call bytes
+    else if same word (codes "callp") then read_call_through bytes
+    else if same word (codes "return") then read_return bytes
     else read_test word bytes
 
--- registers, bytes and objects, and all others
+-- objects
+abbrev pub read_object_word : List ℕ → List ℕ → Reading Instr
+read_object_word word bytes =
+    if same word (codes "local") then read_three read_number read_number (read_word bytes_of) Local bytes
+    else if same word (codes "kill") then read_one read_number Kill bytes
+    else if same word (codes "alloc") then read_four read_number read_low read_low (read_word bytes_of) Alloc bytes
+    else if same word (codes "free") then read_one read_low Free bytes
+    else read_control word bytes
+
+-- registers and bytes, and all others
 abbrev pub read_instr : List ℕ → List ℕ → Reading Instr
 read_instr word bytes =
     if same word (codes "set") then read_two read_number read_low Set bytes
@@ -282,9 +376,10 @@ read_instr word bytes =
     else if same word (codes "draw") then read_two read_number read_kind Draw bytes
     else if same word (codes "store") then read_three read_kind read_low read_low Store bytes
     else if same word (codes "init") then read_three read_kind read_low read_low Init bytes
-    else if same word (codes "local") then read_local bytes
-    else if same word (codes "kill") then read_one read_number Kill bytes
-    else read_control word bytes
+    else if same word (codes "copy") then read_three read_low read_low read_low Copy bytes
+    else if same word (codes "fill") then read_three read_low read_low read_low Fill bytes
+    else if same word (codes "probe") then read_four (read_word sharing_of) read_low read_low read_low Probe bytes
+    else read_object_word word bytes
 
 -- Lines -----------------------------------------------------------------------------------------------------------
 

@@ -5,9 +5,9 @@ use Rattle.dc_num.specs.declared.operators.BinOp.{BinOp}
 use Rattle.dc_num.specs.declared.operators.BinOp.TheVariants.{Lt, Le, Gt, Ge, Eq, Ne}
 use Rattle.dc_num.specs.declared.kind.NumKind.{NumKind}
 use Rattle.dc_num.specs.Kinds.{is_pointer, is_value}
-use Rattle.dc_core.specs.Term.{Term, Constant, Register, Object, Load, Convert, Unary, Binary, Lazy, Choice}
+use Rattle.dc_core.specs.Term.{Term, Constant, Register, Variable, Object, Load, Convert, Unary, Binary, Lazy, Choice, Moved, Distance, Asked, Tested, Between, Quantified}
 use Rattle.dc_text.specs.Words.{same}
-use Rattle.dc_goto.specs.Program.{Instr, Set, Keep, Store, Init, LocalZero, Kill, Covers, Call, Return, Trap, Goto, IfNot, Statics, OutsideObjects, Draw, Seen, Assert, Assume, Require, Push, Range, Check, Pop, Sig, GotoProgram}
+use Rattle.dc_goto.specs.Program.{Instr, Set, Keep, Draw, Store, Init, Copy, Fill, Probe, Local, Kill, Alloc, Free, Trap, Goto, IfNot, Call, CallThrough, Return, Assert, Check, Assume, Require, Push, Pop, Range, Target, Covers, MayFree, Inside, Seen, Havoc, Frees, Statics, OutsideObjects, NewObjects, Sig, GotoProgram}
 use Rattle.dc_goto.specs.Text.{IsSpelt}
 use Rattle.dc_goto.specs.Lines.{BodyHead, Line, Version, Function, Static, Opening, Instruction, End, IsForm, AreLines, forms_of}
 
@@ -126,18 +126,36 @@ is_comparison op = false
 abbrev pub may_compute : BinOp → NumKind → Bool
 may_compute op kind = is_comparison op || not (is_pointer kind)
 
--- registers are below the body's number of registers, objects at most the number of functions and variables, and
--- constants fit their kind
+-- registers are below the body's number of registers, objects at most the number of functions and variables, and variables
+-- those of so many quantifiers around; constants fit their kind, sizes the limit; a quantifier has the nesting that it says
+abbrev pub may_mean_in : ℕ → ℕ → ℕ → Term → Bool
+may_mean_in objects regs nesting (Constant kind z) = is_value kind z
+may_mean_in objects regs nesting (Register r) = nat_lt r regs
+may_mean_in objects regs nesting (Variable d) = nat_lt d nesting
+may_mean_in objects regs nesting (Object n) = nat_le n objects
+may_mean_in objects regs nesting (Load kind a) = may_mean_in objects regs nesting a
+may_mean_in objects regs nesting (Convert to from e) = may_mean_in objects regs nesting e
+may_mean_in objects regs nesting (Unary op kind e) = not (is_pointer kind) && may_mean_in objects regs nesting e
+may_mean_in objects regs nesting (Binary op kind a b) =
+    may_compute op kind && may_mean_in objects regs nesting a && may_mean_in objects regs nesting b
+may_mean_in objects regs nesting (Lazy op a b) = may_mean_in objects regs nesting a && may_mean_in objects regs nesting b
+may_mean_in objects regs nesting (Choice a b c) =
+    may_mean_in objects regs nesting a && may_mean_in objects regs nesting b && may_mean_in objects regs nesting c
+may_mean_in objects regs nesting (Moved size p n) =
+    is_size size && may_mean_in objects regs nesting p && may_mean_in objects regs nesting n
+may_mean_in objects regs nesting (Distance size p q) =
+    is_size size && may_mean_in objects regs nesting p && may_mean_in objects regs nesting q
+may_mean_in objects regs nesting (Asked of p) = may_mean_in objects regs nesting p
+may_mean_in objects regs nesting (Tested test p n) = may_mean_in objects regs nesting p && may_mean_in objects regs nesting n
+may_mean_in objects regs nesting (Between a b c) =
+    may_mean_in objects regs nesting a && may_mean_in objects regs nesting b && may_mean_in objects regs nesting c
+may_mean_in objects regs nesting (Quantified q d kind a b c) =
+    d == nesting && may_mean_in objects regs nesting a && may_mean_in objects regs nesting b
+    && may_mean_in objects regs (suc nesting) c
+
+-- with no quantifier around
 abbrev pub may_mean : ℕ → ℕ → Term → Bool
-may_mean objects regs (Constant kind z) = is_value kind z
-may_mean objects regs (Register r) = nat_lt r regs
-may_mean objects regs (Object n) = nat_le n objects
-may_mean objects regs (Load kind a) = may_mean objects regs a
-may_mean objects regs (Convert to from e) = may_mean objects regs e
-may_mean objects regs (Unary op kind e) = not (is_pointer kind) && may_mean objects regs e
-may_mean objects regs (Binary op kind a b) = may_compute op kind && may_mean objects regs a && may_mean objects regs b
-may_mean objects regs (Lazy op a b) = may_mean objects regs a && may_mean objects regs b
-may_mean objects regs (Choice a b c) = may_mean objects regs a && may_mean objects regs b && may_mean objects regs c
+may_mean objects regs e = may_mean_in objects regs 0 e
 
 abbrev pub may_take : ℕ → Option ℕ → Bool
 may_take regs None = true
@@ -147,10 +165,14 @@ abbrev pub is_some : {A : Type 0} → Option A → Bool
 is_some None = false
 is_some (Some x) = true
 
--- a call of a listed function has as many arguments, and no register where the function gives nothing
+-- a call has as many arguments as there are parameters, and no register where nothing is given
+abbrev pub may_pass : Option NumKind → List NumKind → Option ℕ → ℕ → Bool
+may_pass result params r arguments = (arguments == length params) && (is_some result || not (is_some r))
+
+-- a called function is listed
 abbrev pub may_call : Option Sig → Option ℕ → ℕ → Bool
 may_call None r arguments = false
-may_call (Some sig) r arguments = (arguments == length sig.params) && (is_some sig.result || not (is_some r))
+may_call (Some sig) r arguments = may_pass sig.result sig.params r arguments
 
 -- a value is returned exactly where the function gives one; the start may do either
 abbrev pub may_return : Option Sig → Option Term → Bool
@@ -166,31 +188,44 @@ may_give objects regs (Some value) = may_mean objects regs value
 abbrev pub may_act : List Sig → ℕ → BodyHead → ℕ → Instr → Bool
 may_act functions objects head count (Set r e) = nat_lt r head.regs && may_mean objects head.regs e
 may_act functions objects head count (Keep r e) = nat_lt r head.regs && may_mean objects head.regs e
+may_act functions objects head count (Draw r kind) = nat_lt r head.regs
 may_act functions objects head count (Store kind a e) = may_mean objects head.regs a && may_mean objects head.regs e
 may_act functions objects head count (Init kind a e) = may_mean objects head.regs a && may_mean objects head.regs e
-may_act functions objects head count (LocalZero r size) = nat_lt r head.regs && is_size size
+may_act functions objects head count (Copy a b n) = may_mean objects head.regs a && may_mean objects head.regs b && may_mean objects head.regs n
+may_act functions objects head count (Fill a e n) = may_mean objects head.regs a && may_mean objects head.regs e && may_mean objects head.regs n
+may_act functions objects head count (Probe sharing a b n) = may_mean objects head.regs a && may_mean objects head.regs b && may_mean objects head.regs n
+may_act functions objects head count (Local r size bytes) = nat_lt r head.regs && is_size size
 may_act functions objects head count (Kill m) = true
-may_act functions objects head count (Covers name a n) = may_mean objects head.regs a && may_mean objects head.regs n
-may_act functions objects head count (Call r name arguments) =
-    may_call (sig_of functions name) r (length arguments) && may_take head.regs r
-    && list_all (may_mean objects head.regs) arguments
-may_act functions objects head count (Return value) =
-    may_return (sig_of functions head.name) value && may_give objects head.regs value
+may_act functions objects head count (Alloc r n m bytes) = nat_lt r head.regs && may_mean objects head.regs n && may_mean objects head.regs m
+may_act functions objects head count (Free p) = may_mean objects head.regs p
 may_act functions objects head count Trap = true
 may_act functions objects head count (Goto place) = nat_lt place count
 may_act functions objects head count (IfNot e place) = may_mean objects head.regs e && nat_lt place count
-may_act functions objects head count Statics = true
-may_act functions objects head count OutsideObjects = true
-may_act functions objects head count (Draw r kind) = nat_lt r head.regs
-may_act functions objects head count Seen = true
+may_act functions objects head count (Call r name arguments) =
+    may_call (sig_of functions name) r (length arguments) && may_take head.regs r
+    && list_all (may_mean objects head.regs) arguments
+may_act functions objects head count (CallThrough r e result params arguments) =
+    may_pass result params r (length arguments) && may_take head.regs r && may_mean objects head.regs e
+    && list_all (may_mean objects head.regs) arguments
+may_act functions objects head count (Return value) =
+    may_return (sig_of functions head.name) value && may_give objects head.regs value
 may_act functions objects head count (Assert name e) = may_mean objects head.regs e
+may_act functions objects head count (Check name e) = may_mean objects head.regs e
 may_act functions objects head count (Assume e) = may_mean objects head.regs e
 may_act functions objects head count (Require e) = may_mean objects head.regs e
 may_act functions objects head count Push = true
-may_act functions objects head count (Range tag e a n) =
-    may_mean objects head.regs e && may_mean objects head.regs a && may_mean objects head.regs n
-may_act functions objects head count (Check name e) = may_mean objects head.regs e
 may_act functions objects head count Pop = true
+may_act functions objects head count (Range tag e a n) = may_mean objects head.regs e && may_mean objects head.regs a && may_mean objects head.regs n
+may_act functions objects head count (Target tag e p) = may_mean objects head.regs e && may_mean objects head.regs p
+may_act functions objects head count (Covers name a n) = may_mean objects head.regs a && may_mean objects head.regs n
+may_act functions objects head count (MayFree name p) = may_mean objects head.regs p
+may_act functions objects head count (Inside name tag) = true
+may_act functions objects head count Seen = true
+may_act functions objects head count Havoc = true
+may_act functions objects head count Frees = true
+may_act functions objects head count Statics = true
+may_act functions objects head count OutsideObjects = true
+may_act functions objects head count NewObjects = true
 
 -- an instruction in the last body
 abbrev pub may_act_in : List Sig → ℕ → Option BodyHead → ℕ → Instr → Bool

@@ -18,8 +18,9 @@ use Rattle.dc_core.proofs.Said.{program_said}
 use Rattle.dc_layout.specs.declared.ctype.CType.{CType}
 use Rattle.dc_program.specs.ProgramView as whole
 use Rattle.dc_program.specs.declared.program.Function.{Function}
-use Rattle.dc_goto.specs.Program.{Instr, Init, LocalZero, Draw, Seen, StaticVar}
+use Rattle.dc_goto.specs.Program.{Instr, Init, Local, Draw, Seen, StaticVar}
 use Rattle.dc_goto.specs.View.{goto_view, instr_view}
+use Rattle.dc_goto.specs.declared.operands.Bytes.TheVariants.{Zero}
 use Rattle.dc_goto.specs.declared.program.GotoProgram.{GotoProgram}
 use Rattle.dc_goto.specs.declared.program.Instr.TheVariants as instr
 use Rattle.dc_instrument.specs.declared.places.Places.{Places}
@@ -62,12 +63,12 @@ view_init object i =
     let b = view_register i in
     cc
 
-pub parameters_turn : (o0 o1 o2 o3 : List Instr) (first i n object : ℕ) → i < n → object ≡ first + i → o1 ++ parameters_code first i (n - i) ≡ o0 → o2 ≡ o1 ++ LocalZero object 4 ∷ [] → o3 ≡ o2 ++ Init S32 (Register object) (Register i) ∷ [] → o3 ++ parameters_code first (i + 1) (n - (i + 1)) ≡ o0
+pub parameters_turn : (o0 o1 o2 o3 : List Instr) (first i n object : ℕ) → i < n → object ≡ first + i → o1 ++ parameters_code first i (n - i) ≡ o0 → o2 ≡ o1 ++ Local object 4 Zero ∷ [] → o3 ≡ o2 ++ Init S32 (Register object) (Register i) ∷ [] → o3 ++ parameters_code first (i + 1) (n - (i + 1)) ≡ o0
 parameters_turn o0 o1 o2 o3 first i n object lt eo left e2 e3 =
     one_more o2 o3 _ _ e3
     ∙ one_more o1 o2 _ _ e2
-    ∙ ap (λ k. o1 ++ LocalZero k 4 ∷ Init S32 (Register k) (Register i) ∷ parameters_code first (i + 1) (n - (i + 1))) eo
-    ∙ ap (λ j. o1 ++ LocalZero (first + i) 4 ∷ Init S32 (Register (first + i)) (Register i) ∷ parameters_code first j (n - (i + 1))) (add-one i)
+    ∙ ap (λ k. o1 ++ Local k 4 Zero ∷ Init S32 (Register k) (Register i) ∷ parameters_code first (i + 1) (n - (i + 1))) eo
+    ∙ ap (λ j. o1 ++ Local (first + i) 4 Zero ∷ Init S32 (Register (first + i)) (Register i) ∷ parameters_code first j (n - (i + 1))) (add-one i)
     ∙ sym (ap (λ k. o1 ++ parameters_code first i k) (one_fewer i n lt))
     ∙ left
 

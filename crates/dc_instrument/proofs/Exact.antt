@@ -1,3 +1,5 @@
+pub mod Plain
+pub mod Sets
 pub mod Values
 pub mod Parameters
 pub mod Follow

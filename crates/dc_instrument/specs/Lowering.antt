@@ -6,7 +6,8 @@ use Rattle.dc_core.specs.Assertion.{assigns_name, postcondition_name}
 use Rattle.dc_core.specs.Program as program
 use Rattle.dc_core.specs.Program.{Expr, Stmt, Function, Program}
 use Rattle.dc_core.specs.Term.{Term, Constant, Register, Object, Load, Binary}
-use Rattle.dc_goto.specs.Program.{Instr, Set, Store, Init, LocalZero, Covers, Call, Return, Trap, Statics, OutsideObjects, Draw, Seen, Require, Push, Range, Check, Pop, Sig, StaticVar, Body, GotoProgram}
+use Rattle.dc_goto.specs.Program.{Instr, Set, Store, Init, Local, Covers, Call, Return, Trap, Statics, OutsideObjects, Draw, Seen, Require, Push, Range, Check, Pop, Sig, StaticVar, Body, GotoProgram}
+use Rattle.dc_goto.specs.declared.operands.Bytes.TheVariants.{Zero}
 use Rattle.dc_instrument.specs.declared.places.Places.{Places}
 use Rattle.dc_instrument.specs.declared.places.Places.TheVariants as places
 
@@ -50,7 +51,7 @@ int_len = Constant U64 (pos 4)
 abbrev pub parameters_code : ℕ → ℕ → ℕ → List Instr
 parameters_code first i zero = []
 parameters_code first i (suc n) =
-    LocalZero (first + i) 4 ∷ Init S32 (Register (first + i)) (Register i) ∷ parameters_code first (suc i) n
+    Local (first + i) 4 Zero ∷ Init S32 (Register (first + i)) (Register i) ∷ parameters_code first (suc i) n
 
 -- the statements of a function whose parameters' objects are named from `first` on; each takes a new register
 abbrev pub statements_code : List ℕ → ℕ → ℕ → List Stmt → List Instr

@@ -12,7 +12,7 @@ use crate::code::{put, sum};
 use crate::expression::{int_length, nothing, place, term};
 use crate::places::Places;
 use dc_core::{Name, NumKind, Term, body, gives_int, params};
-use dc_goto::{Body, Instr};
+use dc_goto::{Body, Bytes, Instr};
 use dc_program::{Expr, Form, Function, Stmt, StmtForm};
 use sqlite_items::Items;
 use std::alloc::{AllocError, Global};
@@ -23,7 +23,7 @@ fn put_parameters(out: &mut Items<Instr>, first: u64, n: u64) -> Result<(), Allo
 {
     for i in 0..n {
         let object = sum(first, i)?;
-        put(out, Instr::LocalZero(object, 4))?;
+        put(out, Instr::Local(object, 4, Bytes::Zero))?;
         let argument = Term::Register(i);
         put(
             out,

@@ -1,68 +1,122 @@
 -- Instructions, each by what its expressions are.
-use Rattle.std.proofs.Common.{◌≡◌, ℕ, zero, suc, ◌+◌, ◌<◌, ℤ, pos, Bool, true, false, List, [], ◌∷◌, ◌++◌, length, map, Some, None, refl, ap, sym, ◌∙◌, arith, ◌*◌, ◌^◌, append_assoc, to_z, of_z}
-use Rattle.std.specs.Prelude.{replicate, nat_le}
+use Rattle.std.proofs.Common.{◌≡◌, ℕ, zero, suc, ◌+◌, ◌-◌, ◌<◌, ◌≤◌, drop, take, get_or, ℤ, pos, Bool, true, false, ◌&&◌, List, [], ◌∷◌, ◌++◌, length, map, Option, Some, None, refl, ap, sym, ◌∙◌, arith, ◌*◌, ◌^◌, append_assoc, to_z, of_z, Bor}
+use Rattle.std.specs.Prelude.{Result, IfOk, replicate, nat_le, slice_get, option_map}
+use Rattle.std.specs.Option.{option_copied}
 use Rattle.std.proofs.lemmas.Int.{ints}
-use Rattle.dc_core.specs.Event.{Create, Write, Undefined, Blocked, ObjectLimit}
-use Rattle.dc_core.specs.Contract.{WriteSet, holds, denoted, with_ranges}
+use Rattle.std.proofs.Math.Seq.{take-nil}
+use Rattle.dc_core.specs.Event.{Free, Write, Undefined}
 use Rattle.dc_memory.specs.declared.object.ObjKind.TheVariants.{Static}
-use Rattle.dc_memory.specs.Objects.{Memory, object_limit, holding}
-use Rattle.dc_memory.specs.Places.{start_of}
-use Rattle.dc_core.specs.Objects.{function_object}
-use Rattle.dc_core.specs.Run.{Did, checked}
-use Rattle.dc_core.specs.Term.{Term}
-use Rattle.dc_core.specs.World.{is_full, next_object, with_local}
+use Rattle.dc_memory.specs.Access.{IsWritten}
+use Rattle.dc_memory.specs.Kinds.{size_of}
+use Rattle.dc_memory.specs.declared.kind.MemKind.{MemKind}
+use Rattle.dc_memory.specs.declared.kind.MemKind.TheVariants.{Bool as Truth, S8, U8, S16, U16, S32, U32, S64, U64, Ptr}
+use Rattle.dc_num.specs.declared.kind.NumKind.{NumKind}
+use Rattle.dc_memory.specs.Objects.{Memory, changed, object_limit, holding}
+use Rattle.dc_memory.specs.Places.{start_of, object_of, offset_of}
+use Rattle.dc_core.specs.Objects.{died, function_object}
+use Rattle.dc_core.specs.Run.{Did}
 use Rattle.dc_world.specs.Told.{Hearing, happens}
-use Rattle.dc_goto.specs.Program as goto
-use Rattle.dc_goto.specs.Program.{GotoProgram}
-use Rattle.dc_goto.specs.Machine.{is_true, Now, Next, Ends, act, term_value, natural_value, with_register, covered, static_sizes, first_memory}
+use Rattle.dc_world.specs.declared.report.End.{End}
+use Rattle.dc_world.specs.declared.report.End.TheVariants as end
+use Rattle.dc_goto.specs.Program.{GotoProgram, Sig}
+use Rattle.dc_goto.specs.Acts.{Now, Then, Next, Ends, defined, freed, function_at, is_kind, put, same_kinds, static_sizes, with_memory}
+use Rattle.dc_goto.specs.Machine.{first_memory}
+use Rattle.dc_machine.specs.Step.{IsAlone, acting}
+use Rattle.dc_machine.proofs.Parts.{ends_named}
+use Rattle.dc_machine.proofs.Ends.{nothing-behind}
+use Rattle.dc_writeset.specs.Sets.{PlainSets, with_freed}
 use mir.Syntax.{w128}
 
-pub set-none : (p : GotoProgram) (name : List ℕ) (r : ℕ) (e : Term) (s : Now) → term_value s.regs s.world.memory e ≡ None → act p name (goto.Set r e) s ≡ Ends [] (Undefined name) s.world
-set-none p name r e s h = rw h refl
+-- a value that isn't there
+pub ends_undefined : {A E : Type 0} (name : List ℕ) (run : List ℕ → Then) (state s : List ℕ → Now) (go : A → Then) (o : Option A) (r : Result (Option End) E) (h : Hearing)
+    → run [] ≡ defined name o (s []) go → o ≡ None → (s []).world.choices ≡ [] → IfOk r (λ x. x ≡ Some (end.Undefined name)) → IsAlone acting run state r h h
+ends_undefined name run state s go o r h e none dry is =
+    ends_named acting run state (end.Undefined name) (s []).world r h is refl (e ∙ ap (λ o. defined name o (s []) go) none) dry
 
-pub set-some : (p : GotoProgram) (name : List ℕ) (r : ℕ) (e : Term) (s : Now) (v : ℤ) → term_value s.regs s.world.memory e ≡ Some v → act p name (goto.Set r e) s ≡ Next [] (with_register r v s)
-set-some p name r e s v h = rw h refl
+-- and one that is
+pub defined-some : {A : Type 0} (name : List ℕ) (o : Option A) (s : Now) (go : A → Then) (v : A) → o ≡ Some v → defined name o s go ≡ go v
+defined-some name o s go v e = ap (λ o. defined name o s go) e
 
-pub assert-none : (p : GotoProgram) (name check : List ℕ) (e : Term) (s : Now) → term_value s.regs s.world.memory e ≡ None → act p name (goto.Assert check e) s ≡ Ends [] (Undefined name) s.world
-assert-none p name check e s h = rw h refl
+-- a write of no bytes, of some that can't be written, and of some that can
+pub put-nothing : (name : List ℕ) (pointer n : ℕ) (memory : Option Memory) (s : Now) → n ≡ 0 → put name pointer n memory s ≡ Next [] s
+put-nothing name pointer n memory s e = rw e refl
 
-pub assert-some : (p : GotoProgram) (name check : List ℕ) (e : Term) (s : Now) (v : ℤ) (held : Bool) → term_value s.regs s.world.memory e ≡ Some v → held ≡ is_true v → act p name (goto.Assert check e) s ≡ Next (checked check held) s
-assert-some p name check e s v held h k = rw (h, k) refl
+pub put-refused : (name : List ℕ) (pointer n : ℕ) (memory : Option Memory) (s : Now) → 0 < n → memory ≡ None → put name pointer n memory s ≡ Ends [] (Undefined name) s.world
+put-refused name pointer zero memory s some e = absurd (omega (arith, some))
+put-refused name pointer (suc n) memory s some e = rw e refl
 
-pub assume-none : (p : GotoProgram) (name : List ℕ) (e : Term) (s : Now) → term_value s.regs s.world.memory e ≡ None → act p name (goto.Assume e) s ≡ Ends [] (Undefined name) s.world
-assume-none p name e s h = rw h refl
+pub put-written : (name : List ℕ) (pointer n : ℕ) (memory : Option Memory) (after : Memory) (s : Now) → 0 < n → memory ≡ Some after
+    → put name pointer n memory s ≡ Next (Did (Write (object_of pointer) (offset_of pointer) n) ∷ []) (with_memory after s)
+put-written name pointer zero memory after s some e = absurd (omega (arith, some))
+put-written name pointer (suc n) memory after s some e = rw e refl
 
-pub assume-failed : (p : GotoProgram) (name : List ℕ) (e : Term) (s : Now) (v : ℤ) → term_value s.regs s.world.memory e ≡ Some v → is_true v ≡ false → act p name (goto.Assume e) s ≡ Ends [] Blocked s.world
-assume-failed p name e s v h k = rw (h, k) refl
+-- an object that died and was noted
+pub freed-as : (s : Now) (sets : PlainSets) (memory : Memory) (object number : ℕ) → number ≡ object → sets ≡ with_freed number s.sets → memory ≡ changed number died s.world.memory
+    → freed object s ≡ record s { sets = sets; world = record s.world { memory = memory } }
+freed-as s sets memory object number e f g = rw (f, g, e) refl
 
-pub check-act : (p : GotoProgram) (name check : List ℕ) (e : Term) (s : Now) (held : Bool) → held ≡ holds (term_value s.regs s.world.memory e) → act p name (goto.Check check e) s ≡ Next (checked check held) s
-check-act p name check e s held h = rw h refl
+pub told-free : (o o' : ℕ) (h : Hearing) → o ≡ o' → happens (Free o) h ≡ happens (Free o') h
+told-free o o' h e = ap (λ o. happens (Free o) h) e
 
-pub covers-act : (p : GotoProgram) (name check : List ℕ) (a n : Term) (s : Now) (held : Bool)
-    → held ≡ covered s.sets s.world.memory (natural_value s.regs s.world.memory a) (natural_value s.regs s.world.memory n) → act p name (goto.Covers check a n) s ≡ Next (checked check held) s
-covers-act p name check a n s held h = rw h refl
+-- a value of each kind takes some
+pub some-bytes : (kind : MemKind) → 0 < size_of kind
+some-bytes Truth = omega arith
+some-bytes S8 = omega arith
+some-bytes U8 = omega arith
+some-bytes S16 = omega arith
+some-bytes U16 = omega arith
+some-bytes S32 = omega arith
+some-bytes U32 = omega arith
+some-bytes S64 = omega arith
+some-bytes U64 = omega arith
+some-bytes Ptr = omega arith
 
-pub require-held : (p : GotoProgram) (name : List ℕ) (e : Term) (s : Now) → holds (term_value s.regs s.world.memory e) ≡ true → act p name (goto.Require e) s ≡ Next [] s
-require-held p name e s h = rw h refl
+-- what was written, and what wasn't
+pub is-written : (after : Option Memory) (old new : Memory) (written : Bool) → IsWritten written after old new → written ≡ true → after ≡ Some new
+is-written after old new true h e = h
+is-written after old new false h e = cc
 
-pub require-failed : (p : GotoProgram) (name : List ℕ) (e : Term) (s : Now) → holds (term_value s.regs s.world.memory e) ≡ false → act p name (goto.Require e) s ≡ Ends [] Blocked s.world
-require-failed p name e s h = rw h refl
+pub not-written : (after : Option Memory) (old new : Memory) (written : Bool) → IsWritten written after old new → written ≡ false → after ≡ None
+not-written after old new true h e = cc
+not-written after old new false h e = h.0
 
-pub local-full : (p : GotoProgram) (name : List ℕ) (r size : ℕ) (s : Now) → is_full s.world ≡ true → act p name (goto.LocalZero r size) s ≡ Ends [] ObjectLimit s.world
-local-full p name r size s h = rw h refl
+-- kinds of other numbers aren't the same
+pub other-kinds : (kinds others : List NumKind) → (length kinds ≡ length others → ⊥) → same_kinds kinds others ≡ false
+other-kinds [] [] h = absurd (h refl)
+other-kinds [] (l ∷ others) h = refl
+other-kinds (k ∷ kinds) [] h = refl
+other-kinds (k ∷ kinds) (l ∷ others) h = ap (λ b. is_kind k l && b) (other-kinds kinds others (λ e. h (ap suc e))) ∙ never (is_kind k l)
+  where
+    never : (b : Bool) → (b && false) ≡ false
+    never true = refl
+    never false = refl
 
-pub local-made : (p : GotoProgram) (name : List ℕ) (r size n : ℕ) (s t : Now) → is_full s.world ≡ false → n ≡ next_object s.world → t ≡ record s { world = with_local (replicate size 0) s.world }
-    → act p name (goto.LocalZero r size) s ≡ Next (Did (Create n) ∷ []) (with_register r (pos (start_of n)) t)
-local-made p name r size n s t h e f = rw (h, f, e) refl
+-- kinds from an index on
+pub kinds-from : (kinds others : List NumKind) (i : ℕ) (k l : NumKind) → i < length kinds → i < length others
+    → same_kinds (drop i kinds) (drop i others) ≡ (is_kind (get_or kinds i k) (get_or others i l) && same_kinds (drop (i + 1) kinds) (drop (i + 1) others))
+kinds-from [] others i k l g h = absurd (omega (arith, g))
+kinds-from (x ∷ kinds) [] i k l g h = absurd (omega (arith, h))
+kinds-from (x ∷ kinds) (y ∷ others) zero k l g h = refl
+kinds-from (x ∷ kinds) (y ∷ others) (suc i) k l g h =
+    let e : suc i + 1 ≡ suc (i + 1) = omega arith in
+    rw e (kinds-from kinds others i k l (omega arith) (omega arith))
 
--- the innermost of some sets, and of none
-pub range-none : (p : GotoProgram) (name : List ℕ) (tag : ℕ) (e a n : Term) (s : Now) → s.sets ≡ [] → act p name (goto.Range tag e a n) s ≡ Next [] (record s { sets = [] })
-range-none p name tag e a n s h = rw h refl
+pub no-kinds-behind : (kinds others : List NumKind) (i : ℕ) → length kinds ≤ i → length others ≤ i → same_kinds (drop i kinds) (drop i others) ≡ true
+no-kinds-behind kinds others i g h = rw (nothing-behind i kinds g, nothing-behind i others h) refl
 
-pub range-act : (p : GotoProgram) (name : List ℕ) (tag : ℕ) (e a n : Term) (s : Now) (set new : WriteSet) (sets : List WriteSet) → s.sets ≡ set ∷ sets
-    → new ≡ with_ranges (denoted tag s.world.memory (holds (term_value s.regs s.world.memory e)) (natural_value s.regs s.world.memory a) (natural_value s.regs s.world.memory n)) set
-    → act p name (goto.Range tag e a n) s ≡ Next [] (record s { sets = new ∷ sets })
-range-act p name tag e a n s set new sets h f = rw (f, h) refl
+-- what a reference to it shows
+pub borrowed : {A B : Type 0} (f : A → B) (o : Option (Bor A)) (p : Option A) → option_copied o ≡ p → option_map (λ r. f r.now) o ≡ option_map f p
+borrowed f None p e = ap (option_map f) e
+borrowed f (Some r) p e = ap (option_map f) e
+
+-- the function of an object
+pub function-at : (functions : List Sig) (object : ℕ) → 0 < object → function_at functions object ≡ slice_get functions (object - 1)
+function-at functions zero h = absurd (omega (arith, h))
+function-at functions (suc n) h = let e : suc n - 1 ≡ n = omega arith in ap (slice_get functions) (sym e)
+
+-- a list that was resized from none
+pub resized : (n : ℕ) (xs all : List ℕ) → xs ≡ [] → all ≡ take n xs ++ replicate (n - length xs) 0 → all ≡ replicate n 0
+resized n xs all e f = f ∙ ap (λ xs. take n xs ++ replicate (n - length xs) 0) e ∙ rw (take-nil n) (ap (λ k. replicate k 0) (omega arith))
 
 pub full-test : (n m : ℕ) → n ≡ m → nat_le 65535 n ≡ nat_le object_limit m
 full-test n m e = rw e refl

@@ -1,32 +1,34 @@
 -- Calls and returns, each by what is known of it.
 use Rattle.std.proofs.Common.{◌≡◌, ℕ, ◌<◌, ◌≤◌, ℤ, true, false, List, [], ◌∷◌, ◌++◌, length, map, reverse, Option, Some, None, refl, ap, sym, ◌∙◌, arith}
-use Rattle.std.specs.Prelude.{slice_get, option_map, option_and_then, nat_lt, Result, Ok, Err}
+use Rattle.std.specs.Prelude.{slice_get, option_map, option_and_then, nat_lt, Result, Ok, IfOk}
 use Rattle.std.proofs.lemmas.List.{length-map, length-reverse, map-append}
 use Rattle.std.proofs.lemmas.Option.{slice_get-map}
 use Rattle.std.proofs.lemmas.Bool.Decides.{nat_tests}
 use Rattle.dc_core.specs.Event as plain
 use Rattle.dc_core.specs.Run.{Note, Did}
-use Rattle.dc_core.specs.Term.{Term}
 use Rattle.dc_core.specs.World.{left, kill_events}
 use Rattle.dc_goto.specs.Program as goto
 use Rattle.dc_goto.specs.Program.{GotoProgram, Body}
-use Rattle.dc_goto.specs.Machine.{Now, Machine, Frame, Run, Going, Stopped, noted, act, proceed, entered, entered_body, caller, body_of, first_registers, depth_limit, left_body, with_result, term_value, term_values, function_number, step}
+use Rattle.dc_goto.specs.Machine.{Now, Machine, Frame, Run, Going, Stopped, noted, act, proceed, entered, entered_body, caller, body_of, first_registers, depth_limit, left_body, with_result, function_number, step}
 use Rattle.dc_world.specs.Told.{Hearing, noted as hears, happens, told}
 use Rattle.dc_world.proofs.Drawing.{told-append}
 use Rattle.dc_world.specs.declared.report.End.{End}
+use Rattle.dc_world.specs.declared.report.End.TheVariants as end
+use Rattle.dc_core.specs.World.{World}
+use Rattle.dc_machine.proofs.Parts.{ends_named}
 use Rattle.dc_machine.specs.Step.{IsAlone, running}
 use Rattle.dc_machine.specs.View.{name_at, code_at}
 
-pub entered-none : (m : Machine) (r : Option ℕ) (name : List ℕ) (values : List ℤ) (o : Option Body) → o ≡ None → entered_body m r name values o ≡ Stopped [] (plain.NoBody name) m.now.world
-entered-none m r name values o e = rw e refl
+pub entered-none : (m : Machine) (s : Now) (r : Option ℕ) (name : List ℕ) (values : List ℤ) (o : Option Body) → o ≡ None → entered_body m s r name values o ≡ Stopped [] (plain.NoBody name) s.world
+entered-none m s r name values o e = rw e refl
 
-pub entered-some : (m : Machine) (r : Option ℕ) (name : List ℕ) (values : List ℤ) (o : Option Body) (b : Body) → o ≡ Some b → entered_body m r name values o ≡ entered_body m r name values (Some b)
-entered-some m r name values o b e = ap (entered_body m r name values) e
+pub entered-some : (m : Machine) (s : Now) (r : Option ℕ) (name : List ℕ) (values : List ℤ) (o : Option Body) (b : Body) → o ≡ Some b → entered_body m s r name values o ≡ entered_body m s r name values (Some b)
+entered-some m s r name values o b e = ap (entered_body m s r name values) e
 
-pub entered-as : (m mc : Machine) (r : Option ℕ) (name : List ℕ) (values : List ℤ) (bodies : List Body) (k : ℕ) (b : Body) → slice_get bodies k ≡ Some b → b.name ≡ name
-    → mc ≡ record { name = name_at (slice_get bodies k); code = code_at (slice_get bodies k); place = 0; frames = caller m r ∷ m.frames; now = record m.now { regs = first_registers b values; world = record m.now.world { locals = [] } } }
-    → entered_body m r name values (Some b) ≡ Going [] mc
-entered-as m mc r name values bodies k b e g f = ap (Going []) (sym (f ∙ rw (e, g) refl))
+pub entered-as : (m mc : Machine) (s : Now) (r : Option ℕ) (name : List ℕ) (values : List ℤ) (bodies : List Body) (k : ℕ) (b : Body) → slice_get bodies k ≡ Some b → b.name ≡ name
+    → mc ≡ record { name = name_at (slice_get bodies k); code = code_at (slice_get bodies k); place = 0; frames = caller m s r ∷ m.frames; now = record s { regs = first_registers b values; world = record s.world { locals = [] } } }
+    → entered_body m s r name values (Some b) ≡ Going [] mc
+entered-as m mc s r name values bodies k b e g f = ap (Going []) (sym (f ∙ rw (e, g) refl))
 
 pub some-same : {A : Type 0} (a b : A) → ◌≡◌ {A = Option A} (Some a) (Some b) → a ≡ b
 some-same a b e = cc
@@ -34,19 +36,24 @@ some-same a b e = cc
 pub frames-count : {A B : Type 0} (f : A → B) (xs : List A) → length (reverse (map f xs)) ≡ length xs
 frames-count f xs = length-reverse (map f xs) ∙ length-map xs f
 
-pub depth-reached : (p : GotoProgram) (m : Machine) (r : Option ℕ) (name : List ℕ) (values : List ℤ) (n : ℕ) → n ≡ length m.frames → 1024 ≤ n
-    → entered p m r name values (nat_lt (length m.frames) depth_limit) ≡ Stopped [] plain.DepthLimit m.now.world
+pub depth-reached : (p : GotoProgram) (m : Machine) (s : Now) (r : Option ℕ) (name : List ℕ) (values : List ℤ) (n : ℕ) → n ≡ length m.frames → 1024 ≤ n
+    → entered p m s r name values (nat_lt (length m.frames) depth_limit) ≡ Stopped [] plain.DepthLimit s.world
 unfolding depth_limit
-depth-reached p m r name values n e le =
+depth-reached p m s r name values n e le =
     let t : nat_lt (length m.frames) 1024 ≡ false = grind (arith, nat_tests) in
     rw t refl
 
-pub depth-left : (p : GotoProgram) (m : Machine) (r : Option ℕ) (name : List ℕ) (values : List ℤ) (n k : ℕ) → n ≡ length m.frames → n < 1024 → k ≡ function_number 1 p.functions name
-    → entered p m r name values (nat_lt (length m.frames) depth_limit) ≡ noted (Did (plain.Call k) ∷ []) (entered_body m r name values (body_of p.bodies name))
+pub depth-left : (p : GotoProgram) (m : Machine) (s : Now) (r : Option ℕ) (name : List ℕ) (values : List ℤ) (n k : ℕ) → n ≡ length m.frames → n < 1024 → k ≡ function_number 1 p.functions name
+    → entered p m s r name values (nat_lt (length m.frames) depth_limit) ≡ noted (Did (plain.Call k) ∷ []) (entered_body m s r name values (body_of p.bodies name))
 unfolding depth_limit
-depth-left p m r name values n k e lt f =
+depth-left p m s r name values n k e lt f =
     let t : nat_lt (length m.frames) 1024 ≡ true = grind (arith, nat_tests) in
     rw (t, f) refl
+
+-- a run that comes to something without meaning
+pub run_undefined : {E : Type 0} (name : List ℕ) (run : List ℕ → Run) (state : List ℕ → Machine) (w : World) (r : Result (Option End) E) (h : Hearing)
+    → run [] ≡ Stopped [] (plain.Undefined name) w → w.choices ≡ [] → IfOk r (λ x. x ≡ Some (end.Undefined name)) → IsAlone running run state r h h
+run_undefined name run state w r h e dry is = ends_named running run state (end.Undefined name) w r h is refl e dry
 
 -- a note before those of what takes no number
 pub noted-alone : (E : Type 0) (n : Note) (run run' : List ℕ → Run) (state : List ℕ → Machine) (o : Option End) (h k : Hearing) → k ≡ hears n h
@@ -64,12 +71,6 @@ noted-alone E n run run' state (Some end) h k e f a = record {
   not_dry = a.not_dry;
   heard = a.heard ∙ ap (told a.notes) e;
 }
-
-pub alone-same : {E : Type 0} (run run' : List ℕ → Run) (state : List ℕ → Machine) (r : Result (Option End) E) (h k : Hearing)
-    → ((choices : List ℕ) → run' choices ≡ run choices) → IsAlone running run state r h k → IsAlone running run' state r h k
-alone-same run run' state (Ok None) h k f a = record { notes = a.notes; goes = λ rest. f rest ∙ a.goes rest; heard = a.heard }
-alone-same run run' state (Ok (Some end)) h k f a = record { notes = a.notes; world = a.world; ends = f [] ∙ a.ends; none_left = a.none_left; not_dry = a.not_dry; heard = a.heard }
-alone-same run run' state (Err e) h k f a = a
 
 -- what is left by a return ----------------------------------------------------------------------------------------
 
@@ -90,34 +91,6 @@ left-next s s' value f frames fs mc e g h = rw (e, h, g) refl
 
 pub told-return : (es : List plain.Event) (h k l : Hearing) → k ≡ told (map Did es) h → l ≡ happens plain.Return k → l ≡ told (map Did (es ++ plain.Return ∷ [])) h
 told-return es h k l a b = b ∙ ap (happens plain.Return) a ∙ rw map-append (sym (told-append (map Did es) (Did plain.Return ∷ []) h))
-
--- the values of arguments
-pub held-none : (o : Option (List ℤ)) → None ≡ option_map (map Some) o → o ≡ None
-held-none None e = refl
-held-none (Some values) e = cc
-
-pub held-some : (o : Option (List ℤ)) (items : List (Option ℤ)) → Some items ≡ option_map (map Some) o → (values : List ℤ) × (o ≡ Some values) × (items ≡ map Some values)
-held-some None items e = cc
-held-some (Some values) items e = let f : items ≡ map Some values = cc in (values, refl, f)
-
-pub call-none : (p : GotoProgram) (m : Machine) (name f : List ℕ) (r : Option ℕ) (arguments : List Term) → term_values m.now.regs m.now.world.memory arguments ≡ None
-    → proceed p m (act p name (goto.Call r f arguments) m.now) ≡ Stopped [] (plain.Undefined name) m.now.world
-call-none p m name f r arguments e = rw e refl
-
-pub call-some : (p : GotoProgram) (m : Machine) (name f : List ℕ) (r : Option ℕ) (arguments : List Term) (values : List ℤ) → term_values m.now.regs m.now.world.memory arguments ≡ Some values
-    → proceed p m (act p name (goto.Call r f arguments) m.now) ≡ entered p m r f values (nat_lt (length m.frames) depth_limit)
-call-some p m name f r arguments values e = rw e refl
-
-pub branch-none : (p : GotoProgram) (m : Machine) (name : List ℕ) (e : Term) (place : ℕ) → term_value m.now.regs m.now.world.memory e ≡ None → proceed p m (act p name (goto.IfNot e place) m.now) ≡ Stopped [] (plain.Undefined name) m.now.world
-branch-none p m name e place h = rw h refl
-
-pub return-none : (p : GotoProgram) (m : Machine) (name : List ℕ) (e : Term) → term_value m.now.regs m.now.world.memory e ≡ None
-    → proceed p m (act p name (goto.Return (Some e)) m.now) ≡ Stopped [] (plain.Undefined name) m.now.world
-return-none p m name e h = rw h refl
-
-pub return-some : (p : GotoProgram) (m : Machine) (name : List ℕ) (e : Term) (v : ℤ) → term_value m.now.regs m.now.world.memory e ≡ Some v
-    → proceed p m (act p name (goto.Return (Some e)) m.now) ≡ left_body m.now (Some v) m.frames
-return-some p m name e v h = rw h refl
 
 -- a body of a number
 pub body-at : (bodies : List Body) (k : ℕ) (o : Option ℕ) (b : Option Body) → o ≡ Some k → slice_get bodies k ≡ b → option_and_then (slice_get bodies) o ≡ b

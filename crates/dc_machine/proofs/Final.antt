@@ -6,6 +6,7 @@ use Rattle.dc_core.specs.Run.{seen, event_of, name_of}
 use Rattle.dc_core.specs.World.{World}
 use Rattle.dc_goto.specs.Program.{Body, GotoProgram}
 use Rattle.dc_goto.specs.Machine.{Machine, Run, Going, Stopped, go_on, steps, start, seen_run, goto_run, body_of, first_world, first_registers}
+use Rattle.dc_writeset.specs.Sets.{no_sets}
 use Rattle.dc_text.specs.Counted.{all_counted, no_counts, raised}
 use Rattle.dc_choice.specs.Chosen.{Used}
 use Rattle.dc_choice.specs.Heard.{hears_all}
@@ -127,7 +128,7 @@ pub start-none : (p : GotoProgram) (n : ℕ) → body_of p.bodies (codes ".start
 start-none p n e = rw e refl
 
 pub start-some : (p : GotoProgram) (choices : List ℕ) (k : ℕ) (b : Body) (mc : Machine) → body_of p.bodies (codes ".start") ≡ Some b → slice_get p.bodies k ≡ Some b → b.name ≡ codes ".start"
-    → mc ≡ record { name = name_at (slice_get p.bodies k); code = code_at (slice_get p.bodies k); place = 0; frames = []; now = record { regs = first_registers b []; sets = []; seen = []; world = first_world p choices } }
+    → mc ≡ record { name = name_at (slice_get p.bodies k); code = code_at (slice_get p.bodies k); place = 0; frames = []; now = record { regs = first_registers b []; sets = no_sets; seen = []; world = first_world p choices } }
     → start p choices ≡ Going [] mc
 start-some p choices k b mc e f g h = rw (e, h, f, g) refl
 

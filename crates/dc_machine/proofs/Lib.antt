@@ -1,9 +1,12 @@
 pub mod Parts
 pub mod Indexes
-pub mod Terms
+pub mod Ends
+pub mod Asking
+pub mod Going
 pub mod Draws
 pub mod Acts
 pub mod Calls
 pub mod Longer
 pub mod Final
 pub mod Newest
+pub mod Listed

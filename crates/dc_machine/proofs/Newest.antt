@@ -1,10 +1,10 @@
 -- The objects of a body beyond the first so many.
-use Rattle.std.proofs.Common.{◌≡◌, ℕ, zero, suc, ◌+◌, ◌-◌, ◌≤◌, ◌<◌, List, [], ◌∷◌, ◌++◌, length, take, drop, map, reverse, refl, ap, ◌∙◌, arith, length-append}
+use Rattle.std.proofs.Common.{◌≡◌, ℕ, suc, ◌+◌, ◌-◌, ◌≤◌, ◌<◌, List, [], ◌∷◌, ◌++◌, length, take, drop, map, reverse, refl, ap, ◌∙◌, arith, length-append}
 use Rattle.std.proofs.lemmas.List.{length-reverse, reverse-append}
 use Rattle.dc_core.specs.Event.{Kill}
 use Rattle.dc_core.specs.Run.{Did}
 use Rattle.dc_core.specs.World.{left}
-use Rattle.dc_goto.specs.Machine.{Now, newer, older, without_newer}
+use Rattle.dc_goto.specs.Acts.{Now, newer, older, without_locals}
 
 pub newer-more : (m object : ℕ) (locals : List ℕ) → m ≤ length locals → newer m (object ∷ locals) ≡ object ∷ newer m locals
 newer-more m object locals h =
@@ -54,7 +54,7 @@ newest m object before after e more =
     (ap (newer m) turned ∙ newer-more m object (reverse after) few, ap (older m) turned ∙ older-more m object (reverse after) few)
 
 -- where the first none stay, all die
-pub left-all : (s : Now) → without_newer 0 s ≡ record s { world = left [] s.world }
+pub left-all : (s : Now) → record s { world = without_locals 0 s.world } ≡ record s { world = left [] s.world }
 left-all s = rw (newer-none s.world.locals, older-none s.world.locals) refl
 
 pub did-kills : (locals : List ℕ) → map (λ object. Did (Kill object)) locals ≡ map Did (map Kill locals)

@@ -32,13 +32,13 @@ alone-step form run state (Err e) s h h' a = record { numbers = []; notes = []; 
 -- an instruction, and the machine behind it
 behind_act : (p : GotoProgram) (m : Machine) (t : Then) (notes more : List Note) → notes_then t ≡ notes ++ more → (more : List Note) × (notes_run (proceed p m t) ≡ notes ++ more)
 behind_act p m (Next ns s) notes more e = (more, e)
-behind_act p m (Jumps place) [] more e = ([], refl)
-behind_act p m (Jumps place) (n ∷ notes) more e = cc
+behind_act p m (Jumps place s) [] more e = ([], refl)
+behind_act p m (Jumps place s) (n ∷ notes) more e = cc
 behind_act p m (Ends ns end w) notes more e = (more, e)
-behind_act p m (Enters result name values) [] more e = (notes_run (proceed p m (Enters result name values)), refl)
-behind_act p m (Enters result name values) (n ∷ notes) more e = cc
-behind_act p m (Leaves value) [] more e = (notes_run (proceed p m (Leaves value)), refl)
-behind_act p m (Leaves value) (n ∷ notes) more e = cc
+behind_act p m (Enters result name values s) [] more e = (notes_run (proceed p m (Enters result name values s)), refl)
+behind_act p m (Enters result name values s) (n ∷ notes) more e = cc
+behind_act p m (Leaves value s) [] more e = (notes_run (proceed p m (Leaves value s)), refl)
+behind_act p m (Leaves value s) (n ∷ notes) more e = cc
 
 -- the machine behind an instruction that goes on to the next place
 abbrev pub placed : Machine → Now → Machine
@@ -225,6 +225,12 @@ ends_named form run state end w (Ok (Some e)) h is dry ends none =
     rw same (record { notes = []; world = w; ends = ends; none_left = none; not_dry = dry; heard = refl })
 ends_named form run state end w (Ok None) h is dry ends none = cc
 ends_named form run state end w (Err f) h is dry ends none = refl
+
+pub alone_same : {X Y E : Type 0} (form : Form X Y) (run run' : List ℕ → Y) (state : List ℕ → X) (r : Result (Option End) E) (h h' : Hearing)
+    → ((choices : List ℕ) → run' choices ≡ run choices) → IsAlone form run state r h h' → IsAlone form run' state r h h'
+alone_same form run run' state (Ok None) h h' f a = record { notes = a.notes; goes = λ rest. f rest ∙ a.goes rest; heard = a.heard }
+alone_same form run run' state (Ok (Some end)) h h' f a = record { notes = a.notes; world = a.world; ends = f [] ∙ a.ends; none_left = a.none_left; not_dry = a.not_dry; heard = a.heard }
+alone_same form run run' state (Err e) h h' f a = a
 
 pub step_same : {X Y E : Type 0} (form : Form X Y) (run run' : List ℕ → Y) (state : List ℕ → X) (r : Result (Option End) E) (s s' : Supply) (h h' : Hearing)
     → ((choices : List ℕ) → run' choices ≡ run choices) → IsStep form run state r s s' h h' → IsStep form run' state r s s' h h'

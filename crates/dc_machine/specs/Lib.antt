@@ -1,5 +1,6 @@
 pub mod View
 pub mod Step
-pub mod Written
+pub mod Asking
 pub mod Index
 pub mod Linked
+pub mod Creating

@@ -2,7 +2,7 @@
 use Rattle.std.specs.Prelude.{◌≡◌, ℕ, List, map}
 use Rattle.std.specs.Map.{lookup}
 use Rattle.dc_goto.specs.Program as plain
-use Rattle.dc_goto.specs.Machine.{static_sizes}
+use Rattle.dc_goto.specs.Acts.{static_sizes}
 use Rattle.dc_goto.specs.View.{goto_view}
 use Rattle.dc_text.specs.Words.{same}
 use Rattle.dc_machine.specs.Index.{first_place}

@@ -3,7 +3,8 @@ use Rattle.std.specs.Prelude.{◌≡◌, ℕ, Bool, true, false, List, [], ◌++
 use Rattle.dc_core.specs.Event as plain
 use Rattle.dc_core.specs.Run.{Note, seen}
 use Rattle.dc_core.specs.World.{World}
-use Rattle.dc_goto.specs.Program.{Instr, Set, Keep, Store, Init, LocalZero, Kill, Covers, Call, Return, Trap, Goto, IfNot, Statics, OutsideObjects, Draw, Seen, Assert, Assume, Require, Push, Range, Check, Pop}
+use Rattle.dc_goto.specs.Program.{Instr, Goto, IfNot, Call, CallThrough, Return}
+use Rattle.dc_goto.specs.Acts as acts
 use Rattle.dc_goto.specs.Machine as machine
 use Rattle.dc_world.specs.Told.{Supply, IsTaken, Hearing, told}
 use Rattle.dc_world.specs.Report.{end_view}
@@ -69,15 +70,15 @@ IsAlone form run state (Err e) h h' = h' ≡ h
 
 -- The forms of the machine's definitions -------------------------------------------------------------------------
 
-abbrev pub notes_then : machine.Then → List Note
-notes_then (machine.Next notes s) = notes
-notes_then (machine.Jumps place) = []
-notes_then (machine.Ends notes end w) = notes
-notes_then (machine.Enters register name values) = []
-notes_then (machine.Leaves value) = []
+abbrev pub notes_then : acts.Then → List Note
+notes_then (acts.Next notes s) = notes
+notes_then (acts.Jumps place s) = []
+notes_then (acts.Ends notes end w) = notes
+notes_then (acts.Enters register name values s) = []
+notes_then (acts.Leaves value s) = []
 
-abbrev pub acting : Form machine.Now machine.Then
-acting = record { goes = machine.Next; ends = machine.Ends; notes = notes_then }
+abbrev pub acting : Form acts.Now acts.Then
+acting = record { goes = acts.Next; ends = acts.Ends; notes = notes_then }
 
 abbrev pub notes_run : machine.Run → List Note
 notes_run (machine.Going notes m) = notes
@@ -88,29 +89,12 @@ running = record { goes = machine.Going; ends = machine.Stopped; notes = notes_r
 
 -- every instruction but a call, a return and a jump goes on to the next
 abbrev pub goes_on : Instr → Bool
-goes_on (Set register value) = true
-goes_on (Keep register value) = true
-goes_on (Store kind place value) = true
-goes_on (Init kind place value) = true
-goes_on (LocalZero register size) = true
-goes_on (Kill first) = true
-goes_on (Covers name place len) = true
-goes_on (Call register name arguments) = false
-goes_on (Return value) = false
-goes_on Trap = true
 goes_on (Goto place) = false
 goes_on (IfNot test place) = false
-goes_on Statics = true
-goes_on OutsideObjects = true
-goes_on (Draw register kind) = true
-goes_on Seen = true
-goes_on (Assert name test) = true
-goes_on (Assume test) = true
-goes_on (Require test) = true
-goes_on Push = true
-goes_on (Range tag condition place len) = true
-goes_on (Check name test) = true
-goes_on Pop = true
+goes_on (Call register name arguments) = false
+goes_on (CallThrough register pointer result params arguments) = false
+goes_on (Return value) = false
+goes_on _ = true
 
 -- What a whole run did -------------------------------------------------------------------------------------------
 

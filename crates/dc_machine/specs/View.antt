@@ -2,17 +2,17 @@
 use Rattle.std.specs.Prelude.{ℕ, List, [], map, reverse, Option, Some, None, slice_get}
 use Rattle.dc_goto.specs.Program.{Instr, Body}
 use Rattle.dc_goto.specs.Machine as plain
-use Rattle.dc_world.specs.Sets.{set_view}
+use Rattle.dc_goto.specs.Acts as acts
 use Rattle.dc_machine.specs.declared.now.Now.{Now}
 use Rattle.dc_machine.specs.declared.machine.Frame.{Frame}
 use Rattle.dc_machine.specs.declared.machine.Machine.{Machine}
 
-abbrev pub now_view : Now → List ℕ → plain.Now
+abbrev pub now_view : Now → List ℕ → acts.Now
 now_view s choices =
     record {
       regs = s.regs.items;
-      sets = reverse (map set_view s.sets.items);
-      seen = [];
+      sets = s.sets;
+      seen = reverse s.seen.items;
       world = record { memory = s.memory; choices = choices; locals = reverse s.locals.items };
     }
 

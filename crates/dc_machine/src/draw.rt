@@ -1,6 +1,6 @@
 // The instructions that draw.
 ghost use Rattle.std.specs.Prelude.{◌≡◌, List, ℕ, length};
-ghost use Rattle.dc_goto.specs.Machine.{act, static_sizes};
+ghost use Rattle.dc_goto.specs.Acts.{act, static_sizes};
 ghost use Rattle.dc_goto.specs.Program as plain;
 ghost use Rattle.dc_goto.specs.Program.{GotoProgram};
 ghost use Rattle.dc_machine.specs.Step.{IsStep, acting};
@@ -12,7 +12,7 @@ use crate::now::Now;
 use dc_choice::{Chooser, Watch};
 use dc_core::NumKind;
 use dc_goto::Sig;
-use dc_world::{End, Log, draw_value, rewrite_all, static_objects, with_outside};
+use dc_world::{End, Log, draw_value, rewrite_all, static_objects, with_new, with_outside};
 use std::alloc::{AllocError, Global};
 
 impl Now {
@@ -58,6 +58,28 @@ impl Now {
             (hearing (W.records watch.new) (W.parts watch.new) log.new) }
     {
         let Some(()) = with_outside(alloc, &mut self.memory, chooser, used, watch, log)? else {
+            return Ok(Some(End::ChoicesEnded));
+        };
+        Ok(None)
+    }
+
+    /// Draws the new objects of a replaced call or a contract loop.
+    pub fn draw_new<C: Chooser, W: Watch>(
+        &mut self,
+        alloc: Global,
+        chooser: &mut C,
+        used: &mut Vec<u64>,
+        watch: &mut W,
+        log: &mut Log,
+    ) -> Result<Option<End>, AllocError>
+        ensures { (p : GotoProgram) (name : List ℕ) →
+            IsStep acting (λ choices. act p name plain.NewObjects (now_view self.old choices)) (now_view self.new) result
+            (supply (C.left chooser.old) (C.given chooser.old) (C.dry chooser.old) used.old.items)
+            (supply (C.left chooser.new) (C.given chooser.new) (C.dry chooser.new) used.new.items)
+            (hearing (W.records watch.old) (W.parts watch.old) log.old)
+            (hearing (W.records watch.new) (W.parts watch.new) log.new) }
+    {
+        let Some(()) = with_new(alloc, &mut self.memory, chooser, used, watch, log)? else {
             return Ok(Some(End::ChoicesEnded));
         };
         Ok(None)

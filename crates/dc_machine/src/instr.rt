@@ -1,6 +1,6 @@
 // The instructions that go on to the next.
 ghost use Rattle.std.specs.Prelude.{◌≡◌, true};
-ghost use Rattle.dc_goto.specs.Machine.{act};
+ghost use Rattle.dc_goto.specs.Acts.{act};
 ghost use Rattle.dc_goto.specs.View.{instr_view};
 ghost use Rattle.dc_machine.specs.Linked.{linked_view, IsLinked};
 ghost use Rattle.dc_machine.specs.Step.{IsStep, acting, goes_on};
@@ -40,21 +40,47 @@ impl Now {
         match instr {
             Instr::Set(register, value) => self.set(alloc, name, *register, value),
             Instr::Keep(register, value) => self.keep(*register, value),
+            Instr::Draw(register, kind) => self.draw_register(
+                *register, *kind, chooser, used, watch, log,
+            ),
             Instr::Store(kind, place, value) => self.store(
                 alloc, name, *kind, place, value, watch, log,
             ),
             Instr::Init(kind, place, value) => self.init(alloc, name, *kind, place, value),
-            Instr::LocalZero(register, len) => self.local_zero(*register, *len, watch, log),
-            Instr::Kill(first) => self.kill(*first, watch, log),
-            Instr::Covers(check, place, len) => self.covers(
-                alloc,
-                check.as_slice(),
-                place,
-                len,
-                watch,
-                log,
+            Instr::Copy(to, from, len) => self.copy(alloc, name, to, from, len, watch, log),
+            Instr::Fill(to, byte, len) => self.fill(alloc, name, to, byte, len, watch, log),
+            Instr::Probe(sharing, to, from, len) => {
+                self.probe(alloc, name, *sharing, to, from, len)
+            }
+            Instr::Local(register, size, bytes) => self.local(
+                alloc, *register, *size, *bytes, chooser, used, watch, log,
             ),
+            Instr::Kill(first) => self.kill(*first, watch, log),
+            Instr::Alloc(register, count, size, bytes) => self.allocate(
+                alloc, name, *register, count, size, *bytes, chooser, used, watch, log,
+            ),
+            Instr::Free(pointer) => self.free(alloc, name, pointer, watch, log),
             Instr::Trap => undefined(alloc, name),
+            Instr::Assert(check, test) => {
+                self.assert(alloc, name, check.as_slice(), test, watch, log)
+            }
+            Instr::Check(check, test) => self.check(alloc, check.as_slice(), test, watch, log),
+            Instr::Assume(test) => self.assume(alloc, name, test),
+            Instr::Require(test) => self.require(test),
+            Instr::Push => self.push_set(),
+            Instr::Pop => self.pop_set(),
+            Instr::Range(tag, condition, place, len) => self.range(*tag, condition, place, len),
+            Instr::Target(tag, condition, pointer) => self.target(*tag, condition, pointer),
+            Instr::Covers(check, place, len) => {
+                self.covers(alloc, check.as_slice(), place, len, watch, log)
+            }
+            Instr::MayFree(check, pointer) => {
+                self.check_free(alloc, check.as_slice(), pointer, watch, log)
+            }
+            Instr::Inside(check, tag) => self.inside(alloc, check.as_slice(), *tag, watch, log),
+            Instr::Seen => self.forget_seen(),
+            Instr::Havoc => self.havoc(alloc, chooser, used, watch, log),
+            Instr::Frees => self.kill_frees(chooser, used, watch, log),
             Instr::Statics => self.draw_statics(
                 alloc,
                 p.goto.functions.as_slice(),
@@ -65,23 +91,12 @@ impl Now {
                 log,
             ),
             Instr::OutsideObjects => self.draw_outside(alloc, chooser, used, watch, log),
-            Instr::Draw(register, kind) => self.draw_register(
-                *register, *kind, chooser, used, watch, log,
-            ),
-            Instr::Assert(check, test) => {
-                self.assert(alloc, name, check.as_slice(), test, watch, log)
-            }
-            Instr::Assume(test) => self.assume(alloc, name, test),
-            Instr::Require(test) => self.require(test),
-            Instr::Push => self.push_set(alloc),
-            Instr::Range(tag, condition, place, len) => self.add_range(*tag, condition, place, len),
-            Instr::Check(check, test) => self.check(alloc, check.as_slice(), test, watch, log),
-            Instr::Pop => self.pop_set(),
-            Instr::Seen => Ok(None),
-            Instr::Call(_, _, _) => Ok(None),
-            Instr::Return(_) => Ok(None),
+            Instr::NewObjects => self.draw_new(alloc, chooser, used, watch, log),
             Instr::Goto(_) => Ok(None),
             Instr::IfNot(_, _) => Ok(None),
+            Instr::Call(_, _, _) => Ok(None),
+            Instr::CallThrough(_, _, _, _, _) => Ok(None),
+            Instr::Return(_) => Ok(None),
         }
     }
 }

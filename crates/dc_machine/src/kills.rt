@@ -3,7 +3,10 @@ ghost use Rattle.std.specs.Prelude.{◌≡◌, ◌<◌, ◌≤◌, ◌++◌, ◌
 ghost use Rattle.dc_core.specs.Event.{Kill};
 ghost use Rattle.dc_core.specs.Run.{Did};
 ghost use Rattle.dc_core.specs.World.{left as left_world, kill_events};
-ghost use Rattle.dc_goto.specs.Machine.{newer, without_newer};
+ghost use Rattle.dc_goto.specs.Program as plain;
+ghost use Rattle.dc_goto.specs.Program.{GotoProgram};
+ghost use Rattle.dc_machine.specs.Step.{IsAlone, acting};
+ghost use Rattle.dc_goto.specs.Acts.{act, newer, without_locals};
 ghost use Rattle.dc_machine.specs.View.{now_view};
 ghost use Rattle.dc_world.specs.Told.{told};
 ghost use Rattle.dc_world.specs.Log.{hearing};
@@ -11,7 +14,8 @@ ghost use Rattle.dc_world.specs.Log.{hearing};
 use crate::now::Now;
 use dc_choice::Watch;
 use dc_text::Event;
-use dc_world::{Log, let_die};
+use dc_world::{End, Log, let_die};
+use std::alloc::AllocError;
 
 // Takes the newest away where there are more than the first so many.
 fn pop_newer(locals: &mut Vec<u64>, first: u64) -> Option<u64>
@@ -30,7 +34,7 @@ fn pop_newer(locals: &mut Vec<u64>, first: u64) -> Option<u64>
 impl Now {
     /// The running function's objects beyond the first so many die, the newest first.
     pub fn kill_newer<W: Watch>(&mut self, first: u64, watch: &mut W, log: &mut Log)
-        ensures left { (choices : List ℕ) → now_view self.new choices ≡ without_newer first (now_view self.old choices) }
+        ensures left { (choices : List ℕ) → now_view self.new choices ≡ record (now_view self.old choices) { world = without_locals first (now_view self.old choices).world } }
         ensures told { hearing (W.records watch.new) (W.parts watch.new) log.new
             ≡ told (map (λ object. Did (Kill object)) (newer first (now_view self.old []).world.locals)) (hearing (W.records watch.old) (W.parts watch.old) log.old) }
     {
@@ -47,5 +51,21 @@ impl Now {
             ≡ told (map Did (kill_events (now_view self.old []).world)) (hearing (W.records watch.old) (W.parts watch.old) log.old) }
     {
         self.kill_newer(0, watch, log);
+    }
+
+    /// The running function's objects beyond the first so many die, the newest first.
+    pub fn kill<W: Watch>(
+        &mut self,
+        first: u64,
+        watch: &mut W,
+        log: &mut Log,
+    ) -> Result<Option<End>, AllocError>
+        ensures { (p : GotoProgram) (name : List ℕ) →
+            IsAlone acting (λ choices. act p name (plain.Kill first) (now_view self.old choices)) (now_view self.new) result
+            (hearing (W.records watch.old) (W.parts watch.old) log.old)
+            (hearing (W.records watch.new) (W.parts watch.new) log.new) }
+    {
+        self.kill_newer(first, watch, log);
+        Ok(None)
     }
 }

@@ -3,13 +3,16 @@
 
 mod act;
 mod draw;
+mod havoc;
 mod index;
 mod instr;
 mod kills;
 mod machine;
 mod now;
+mod objects;
 mod program;
 mod run;
-mod term;
+mod sets;
+mod write;
 
 pub use run::run_goto;

@@ -2,7 +2,8 @@
 ghost use Rattle.std.specs.Prelude.{◌≡◌, ◌<◌, ◌^◌, ◌+◌, ◌-◌, ◌∷◌, ◌++◌, [], reverse, List, ℕ, ℤ, Option, Some, None, pos, map, length, replicate, nat_lt, true, OnOk, IfOk, slice_get, option_map};
 ghost use Rattle.dc_core.specs.Objects.{function_object};
 ghost use Rattle.dc_core.specs.View.{term_view};
-ghost use Rattle.dc_goto.specs.Machine.{act as acted, proceed, step as plain_step, step_at, entered, entered_body, body_of, with_result, caller, left_body, depth_limit, first_registers as registers_of, first_memory as memory_of, first_world};
+ghost use Rattle.dc_goto.specs.Acts.{Enters, act as acted, called, defined};
+ghost use Rattle.dc_goto.specs.Machine.{proceed, step as plain_step, entered, entered_body, body_of, with_result, caller, left_body, depth_limit, first_registers as registers_of, first_memory as memory_of, first_world};
 ghost use Rattle.dc_goto.specs.Program as plain;
 ghost use Rattle.dc_goto.specs.View.{instr_view, body_view, goto_view};
 ghost use Rattle.dc_memory.specs.declared.object.ObjKind.TheVariants.{Static};
@@ -12,17 +13,20 @@ ghost use Rattle.dc_machine.specs.Step.{IsStep, IsAlone, running, goes_on};
 ghost use Rattle.dc_machine.specs.View.{now_view, name_at, code_at, machine_view};
 ghost use Rattle.dc_world.specs.Told.{Hearing, supply};
 ghost use Rattle.dc_world.specs.Log.{hearing};
+ghost use Rattle.dc_writeset.specs.Sets.{no_sets};
 
 use crate::act::{no_body, undefined};
 use crate::now::Now;
 use crate::program::Linked;
-use crate::term::{is_true, term_values};
 use dc_choice::{Chooser, Watch};
-use dc_core::Term;
+use dc_core::{NumKind, Term};
 use dc_goto::{Body, Instr};
 use dc_memory::Store;
+use dc_num::bits;
 use dc_text::Event;
+use dc_value::is_true;
 use dc_world::{End, Log, Storage, Which, add_function, add_zeros};
+use dc_writeset::WriteSets;
 use sqlite_items::at;
 use std::alloc::{AllocError, Global};
 use std::mem;
@@ -107,7 +111,7 @@ impl Machine {
               code = code_at (slice_get bodies number);
               place = 0;
               frames = [];
-              now = record { regs = registers_of (body_view body.now) []; sets = []; seen = []; world = first_world (linked_view p.now) choices };
+              now = record { regs = registers_of (body_view body.now) []; sets = no_sets; seen = []; world = first_world (linked_view p.now) choices };
             }) }
     {
         let memory = first_memory(alloc, p)?;
@@ -118,7 +122,8 @@ impl Machine {
             frames: Vec::new(alloc),
             now: Now {
                 regs,
-                sets: Vec::new(alloc),
+                sets: WriteSets::new(alloc),
+                seen: Vec::new(alloc),
                 memory,
                 locals: Vec::new(alloc),
             },
@@ -141,7 +146,7 @@ impl Machine {
               name = name_at (slice_get bodies number);
               code = code_at (slice_get bodies number);
               place = 0;
-              frames = caller (machine_view bodies self.old choices) register ∷ (machine_view bodies self.old choices).frames;
+              frames = caller (machine_view bodies self.old choices) (now_view self.old.now choices) register ∷ (machine_view bodies self.old choices).frames;
               now =
                   record (now_view self.old.now choices) {
                     regs = registers_of (body_view body.now) values;
@@ -177,7 +182,7 @@ impl Machine {
         requires place { self.old.place + 1 < 2 ^ 64 }
         ensures { (values : List ℤ) (h : Hearing) → arguments.items ≡ map Some values →
             IsAlone running
-            (λ choices. entered_body (machine_view (linked_view p.now).bodies self.old choices) register callee.now values (body_of (linked_view p.now).bodies callee.now))
+            (λ choices. entered_body (machine_view (linked_view p.now).bodies self.old choices) (now_view self.old.now choices) register callee.now values (body_of (linked_view p.now).bodies callee.now))
             (machine_view (linked_view p.now).bodies self.new) result h h }
     {
         let Some(number) = p.bodies.find(callee) else {
@@ -205,7 +210,7 @@ impl Machine {
         requires place { self.old.place + 1 < 2 ^ 64 }
         ensures { (values : List ℤ) → arguments.items ≡ map Some values →
             IsAlone running
-            (λ choices. entered (linked_view p.now) (machine_view (linked_view p.now).bodies self.old choices) register callee.now values (nat_lt (length (machine_view (linked_view p.now).bodies self.old choices).frames) depth_limit))
+            (λ choices. entered (linked_view p.now) (machine_view (linked_view p.now).bodies self.old choices) (now_view self.old.now choices) register callee.now values (nat_lt (length (machine_view (linked_view p.now).bodies self.old choices).frames) depth_limit))
             (machine_view (linked_view p.now).bodies self.new) result
             (hearing (W.records watch.old) (W.parts watch.old) log.old)
             (hearing (W.records watch.new) (W.parts watch.new) log.new) }
@@ -239,10 +244,81 @@ impl Machine {
             (hearing (W.records watch.old) (W.parts watch.old) log.old)
             (hearing (W.records watch.new) (W.parts watch.new) log.new) }
     {
-        let values = term_values(alloc, self.now.regs.as_slice(), &self.now.memory, arguments)?;
-        match values {
+        match self.now.all_given(alloc, arguments)? {
             None => undefined(alloc, name),
             Some(values) => self.call_values(alloc, p, register, callee, values, watch, log),
+        }
+    }
+
+    // A call of the function that a pointer is, with these values.
+    fn call_pointer<W: Watch>(
+        &mut self,
+        alloc: Global,
+        p: &Linked,
+        name: &[u8],
+        register: Option<u64>,
+        pointer: u64,
+        result_kind: Option<NumKind>,
+        params: &[NumKind],
+        arguments: Vec<Option<i128>>,
+        watch: &mut W,
+        log: &mut Log,
+    ) -> Result<Option<End>, AllocError>
+        requires linked { IsLinked p.now }
+        requires place { self.old.place + 1 < 2 ^ 64 }
+        ensures { (values : List ℤ) → arguments.items ≡ map Some values →
+            IsAlone running
+            (λ choices. proceed (linked_view p.now) (machine_view (linked_view p.now).bodies self.old choices) (defined name.now (called (linked_view p.now) result_kind params.now pointer) (now_view self.old.now choices) (λ function. Enters register function values (now_view self.old.now choices))))
+            (machine_view (linked_view p.now).bodies self.new) result
+            (hearing (W.records watch.old) (W.parts watch.old) log.old)
+            (hearing (W.records watch.new) (W.parts watch.new) log.new) }
+    {
+        match p.called(result_kind, params, pointer) {
+            None => undefined(alloc, name),
+            Some(callee) => self.call_values(alloc, p, register, callee, arguments, watch, log),
+        }
+    }
+
+    // A call through a pointer, with arguments.
+    fn call_through<W: Watch>(
+        &mut self,
+        alloc: Global,
+        p: &Linked,
+        name: &[u8],
+        register: Option<u64>,
+        pointer: &Term,
+        result_kind: Option<NumKind>,
+        params: &[NumKind],
+        arguments: &[Term],
+        watch: &mut W,
+        log: &mut Log,
+    ) -> Result<Option<End>, AllocError>
+        requires linked { IsLinked p.now }
+        requires place { self.old.place + 1 < 2 ^ 64 }
+        ensures { IsAlone running
+            (λ choices. proceed (linked_view p.now) (machine_view (linked_view p.now).bodies self.old choices) (acted (linked_view p.now) name.now (plain.CallThrough register (term_view pointer.now) result_kind params.now (map term_view arguments.now)) (now_view self.old.now choices)))
+            (machine_view (linked_view p.now).bodies self.new) result
+            (hearing (W.records watch.old) (W.parts watch.old) log.old)
+            (hearing (W.records watch.new) (W.parts watch.new) log.new) }
+    {
+        let Some(pointer) = self.now.asked(pointer)? else {
+            return undefined(alloc, name);
+        };
+        let pointer = bits(NumKind::Ptr, pointer);
+        match self.now.all_given(alloc, arguments)? {
+            None => undefined(alloc, name),
+            Some(values) => self.call_pointer(
+                alloc,
+                p,
+                name,
+                register,
+                pointer,
+                result_kind,
+                params,
+                values,
+                watch,
+                log,
+            ),
         }
     }
 
@@ -318,7 +394,7 @@ impl Machine {
         match value {
             None => self.leave(None, watch, log),
             Some(term) => {
-                let held = self.now.value(term);
+                let held = self.now.asked(term)?;
                 match held {
                     None => undefined(alloc, name),
                     Some(_) => self.leave(held, watch, log),
@@ -352,14 +428,14 @@ impl Machine {
             (λ choices. proceed p (machine_view p.bodies self.old choices) (acted p name.now (plain.IfNot (term_view test.now) place) (now_view self.old.now choices)))
             (machine_view p.bodies self.new) result h h }
     {
-        match self.now.value(test) {
+        match self.now.asked(test)? {
             None => undefined(alloc, name),
             Some(z) => {
-                self.place = if is_true(z) {
-                    self.place + 1
-                } else {
-                    place as usize
-                };
+                if is_true(z) {
+                    self.place += 1;
+                    return Ok(None);
+                }
+                self.place = place as usize;
                 Ok(None)
             }
         }
@@ -430,6 +506,20 @@ impl Machine {
                     name,
                     *register,
                     callee.as_slice(),
+                    arguments.as_slice(),
+                    watch,
+                    log,
+                )
+            }
+            Instr::CallThrough(register, pointer, result, params, arguments) => {
+                self.call_through(
+                    alloc,
+                    p,
+                    name,
+                    *register,
+                    pointer,
+                    *result,
+                    params.as_slice(),
                     arguments.as_slice(),
                     watch,
                     log,

@@ -1,46 +1,123 @@
 // What instructions read and change.
-ghost use Rattle.std.specs.Prelude.{◌≡◌, List, ℕ, pos, Some, None, reverse, map, is_some};
+ghost use Rattle.std.specs.Prelude.{◌≡◌, List, ℕ, IfOk, map, option_map};
 ghost use Rattle.dc_core.specs.World.{is_full as is_full_world};
 ghost use Rattle.dc_core.specs.View.{term_view};
-ghost use Rattle.dc_goto.specs.Machine.{with_held, covered, term_value as value_of, natural_value as natural_of};
+ghost use Rattle.dc_goto.specs.Acts.{with_register};
+ghost use Rattle.dc_machine.specs.Asking.{AreAsked, AreAskedThree, AreGivenTwo, AreGivenThree, AreAllGiven, IsAsked};
 ghost use Rattle.dc_machine.specs.View.{now_view};
-ghost use Rattle.dc_machine.specs.Written.{IsWritten};
-ghost use Rattle.dc_world.specs.Sets.{set_view};
 
-use crate::term::{natural_value, term_value};
-use dc_core::{NumKind, Term};
-use dc_memory::{Store, object_number, offset};
-use dc_program::mem_kind;
-use dc_world::WriteSet;
+use dc_core::Term;
+use dc_memory::Store;
+use dc_value::Surroundings;
+use dc_writeset::WriteSets;
+use std::alloc::{AllocError, Global};
 
-/// What instructions read and change: the registers, the write sets (innermost last), the memory, and the objects of the
-/// running function (newest last).
+/// What instructions read and change: the registers, the write sets with what was freed, the objects that were seen (newest
+/// last), the memory, and the objects of the running function (newest last).
 #[derive(Drop)]
 pub struct Now {
     pub regs: Vec<Option<i128>>,
-    pub sets: Vec<WriteSet>,
+    pub sets: WriteSets,
+    pub seen: Vec<u64>,
     pub memory: Store,
     pub locals: Vec<u64>,
 }
 
 impl Now {
-    /// The value of an expression, where it has one.
-    pub fn value(&self, term: &Term) -> Option<i128>
-        ensures { result ≡ value_of self.now.regs.items self.now.memory (term_view term.now) }
+    /// The value of an expression, where it has one. What it sees is noted.
+    pub fn asked(&mut self, term: &Term) -> Result<Option<i128>, AllocError>
+        ensures { IfOk result (λ v. IsAsked (term_view term.now) v (now_view self.old) (now_view self.new)) }
     {
-        term_value(self.regs.as_slice(), &self.memory, term)
+        let mut variables = Vec::new(*self.seen.allocator());
+        let surroundings = Surroundings {
+            regs: self.regs.as_slice(),
+            memory: &self.memory,
+            sets: &self.sets,
+        };
+        surroundings.term_value(&mut variables, &mut self.seen, term)
     }
 
-    /// The value of an expression as a pointer or a length, where it has one.
-    pub fn natural(&self, term: &Term) -> Option<u64>
-        ensures { result ≡ natural_of self.now.regs.items self.now.memory (term_view term.now) }
+    /// The values of two expressions, asked in turn.
+    pub fn asked_two(
+        &mut self,
+        a: &Term,
+        b: &Term,
+    ) -> Result<(Option<i128>, Option<i128>), AllocError>
+        ensures { IfOk result (λ v. AreAsked (term_view a.now) (term_view b.now) v.0 v.1 (now_view self.old) (now_view self.new)) }
     {
-        natural_value(self.regs.as_slice(), &self.memory, term)
+        let first = self.asked(a)?;
+        let second = self.asked(b)?;
+        Ok((first, second))
+    }
+
+    /// The values of three expressions, asked in turn.
+    pub fn asked_three(
+        &mut self,
+        a: &Term,
+        b: &Term,
+        c: &Term,
+    ) -> Result<(Option<i128>, Option<i128>, Option<i128>), AllocError>
+        ensures { IfOk result (λ v. AreAskedThree (term_view a.now) (term_view b.now) (term_view c.now) v.0 v.1 v.2 (now_view self.old) (now_view self.new)) }
+    {
+        let first = self.asked(a)?;
+        let second = self.asked(b)?;
+        let third = self.asked(c)?;
+        Ok((first, second, third))
+    }
+
+    /// The values of two expressions, where each has one; none is asked behind one without.
+    pub fn given_two(&mut self, a: &Term, b: &Term) -> Result<Option<(i128, i128)>, AllocError>
+        ensures { IfOk result (λ o. AreGivenTwo (term_view a.now) (term_view b.now) o (now_view self.old) (now_view self.new)) }
+    {
+        let Some(first) = self.asked(a)? else {
+            return Ok(None);
+        };
+        let Some(second) = self.asked(b)? else {
+            return Ok(None);
+        };
+        Ok(Some((first, second)))
+    }
+
+    /// The values of three expressions, where each has one; none is asked behind one without.
+    pub fn given_three(
+        &mut self,
+        a: &Term,
+        b: &Term,
+        c: &Term,
+    ) -> Result<Option<(i128, i128, i128)>, AllocError>
+        ensures { IfOk result (λ o. AreGivenThree (term_view a.now) (term_view b.now) (term_view c.now) o (now_view self.old) (now_view self.new)) }
+    {
+        let Some((first, second)) = self.given_two(a, b)? else {
+            return Ok(None);
+        };
+        let Some(third) = self.asked(c)? else {
+            return Ok(None);
+        };
+        Ok(Some((first, second, third)))
+    }
+
+    /// The values of all expressions as registers hold them, where each has one; none is asked behind one without.
+    pub fn all_given(
+        &mut self,
+        alloc: Global,
+        terms: &[Term],
+    ) -> Result<Option<Vec<Option<i128>>>, AllocError>
+        ensures { IfOk result (λ o. AreAllGiven (map term_view terms.now) (option_map (λ v. v.items) o) (now_view self.old) (now_view self.new)) }
+    {
+        let mut values = Vec::new(alloc);
+        for term in terms {
+            let held = self.asked(term)?;
+            match held {
+                None => return Ok(None),
+                Some(_) => values.push(held)?,
+            }
+        }
+        Ok(Some(values))
     }
 
     /// The register takes what is held, where there is such a register.
     pub fn put(&mut self, register: u64, held: Option<i128>)
-        ensures { (choices : List ℕ) → now_view self.new choices ≡ with_held register held (now_view self.old choices) }
+        ensures { (choices : List ℕ) → now_view self.new choices ≡ with_register register held (now_view self.old choices) }
     {
         if register < self.regs.len() as u64 {
             self.regs[register as usize] = held;
@@ -52,36 +129,5 @@ impl Now {
         ensures { (choices : List ℕ) → result ≡ is_full_world (now_view self.now choices).world }
     {
         self.memory.count() >= 65535
-    }
-
-    /// Whether a write of that length at the place is allowed by the innermost set. One that isn't inside a live object,
-    /// or is empty, is no write.
-    pub fn is_covered(&self, place: Option<u64>, len: Option<u64>) -> bool
-        ensures { result ≡ covered (reverse (map set_view self.now.sets.items)) self.now.memory place len }
-    {
-        let (Some(pointer), Some(len)) = (place, len) else {
-            return true;
-        };
-        if len == 0 || !self.memory.inside(pointer, len) {
-            return true;
-        }
-        match self.sets.as_slice() {
-            [] => false,
-            [.., set] => set.allows(object_number(pointer), offset(pointer), len),
-        }
-    }
-
-    /// Writes a value of the kind at a place and gives the place, where both have values and the place is inside a live
-    /// object.
-    pub fn write(&mut self, kind: NumKind, place: &Term, value: &Term) -> Option<u64>
-        ensures { IsWritten kind (term_view place.now) (term_view value.now) result (now_view self.old) (now_view self.new) }
-    {
-        let pointer = self.natural(place)?;
-        let value = self.value(value)?;
-        if self.memory.store(pointer, mem_kind(kind), value) {
-            Some(pointer)
-        } else {
-            None
-        }
     }
 }

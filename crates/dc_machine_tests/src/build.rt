@@ -1,6 +1,6 @@
 // Goto programs by hand.
 use dc_core::{BinOp, LazyOp, Name, NumKind, Term, UnOp};
-use dc_goto::{Body, GotoProgram, Instr, Sig, StaticVar};
+use dc_goto::{Body, Bytes, GotoProgram, Instr, Sig, StaticVar};
 use sqlite_items::{Boxed, Items};
 use std::alloc::{AllocError, Global};
 
@@ -30,7 +30,8 @@ pub fn binary(alloc: Global, op: BinOp, a: Term, b: Term) -> Result<Term, AllocE
     Ok(Term::Binary(op, NumKind::S32, a, b))
 }
 
-fn body(
+/// A body of this name, with so many parameters and registers.
+pub fn body(
     alloc: Global,
     text: &str,
     params: u64,
@@ -48,7 +49,7 @@ fn body(
 // The body of a function that writes its argument and one more to the object 2.
 fn set_body(alloc: Global) -> Result<Body, AllocError> {
     let mut code = Items::new(alloc);
-    code.push(Instr::LocalZero(1, 4))?;
+    code.push(Instr::Local(1, 4, Bytes::Zero))?;
     code.push(Instr::Init(NumKind::S32, Term::Register(1), Term::Register(0)))?;
     code.push(Instr::Set(
         2,
@@ -165,7 +166,7 @@ pub fn start_program(
 /// A start that makes an object of that many bytes.
 pub fn local_program(alloc: Global, size: u64) -> Result<GotoProgram, AllocError> {
     let mut code = Items::new(alloc);
-    code.push(Instr::LocalZero(0, size))?;
+    code.push(Instr::Local(0, size, Bytes::Zero))?;
     code.push(Instr::Return(None))?;
     start_program(alloc, 1, code)
 }
@@ -178,8 +179,8 @@ pub fn variable_program(alloc: Global) -> Result<GotoProgram, AllocError> {
     start_program(alloc, 0, code)
 }
 
-// A number as a constant of 64 bits.
-fn wide(z: i128) -> Term {
+/// A number as a constant of 64 bits.
+pub fn wide(z: i128) -> Term {
     let kind = if z < 0 { NumKind::S64 } else { NumKind::U64 };
     Term::Constant(kind, z)
 }
@@ -199,8 +200,8 @@ pub fn computing_program(
     start_program(alloc, 0, code)
 }
 
-// A start that returns the value of an expression.
-fn returning_program(alloc: Global, term: Term) -> Result<GotoProgram, AllocError> {
+/// A start that returns the value of an expression.
+pub fn returning_program(alloc: Global, term: Term) -> Result<GotoProgram, AllocError> {
     let mut code = Items::new(alloc);
     code.push(Instr::Return(Some(term)))?;
     start_program(alloc, 0, code)
@@ -276,7 +277,7 @@ pub fn storing_program(
 ) -> Result<GotoProgram, AllocError> {
     let place = Boxed::new(alloc, Term::Register(0))?;
     let mut code = Items::new(alloc);
-    code.push(Instr::LocalZero(0, 8))?;
+    code.push(Instr::Local(0, 8, Bytes::Zero))?;
     code.push(Instr::Store(written, Term::Register(0), wide(z)))?;
     code.push(Instr::Return(Some(Term::Load(read, place))))?;
     start_program(alloc, 1, code)

@@ -5,7 +5,7 @@ use crate::build::{load, start_program};
 use crate::runs::{run, word};
 use dc_choice::{ListChooser, Watch};
 use dc_core::Term;
-use dc_goto::{GotoProgram, Instr};
+use dc_goto::{Bytes, GotoProgram, Instr};
 use dc_machine::run_goto;
 use dc_text::{Choices, Counts, Event};
 use sqlite_items::Items;
@@ -38,7 +38,7 @@ impl Watch for KillWatch {
 fn killing_program(alloc: Global, first: u64) -> Result<GotoProgram, AllocError> {
     let mut code = Items::new(alloc);
     for register in 0..3 {
-        code.push(Instr::LocalZero(register, 4))?;
+        code.push(Instr::Local(register, 4, Bytes::Zero))?;
     }
     code.push(Instr::Kill(first))?;
     code.push(Instr::Return(None))?;
@@ -79,7 +79,7 @@ fn the_newest_die_first(rt: HostRuntime) -> Result<(), Fail> {
 fn reading_program(alloc: Global, first: u64) -> Result<GotoProgram, AllocError> {
     let value = load(alloc, Term::Register(0))?;
     let mut code = Items::new(alloc);
-    code.push(Instr::LocalZero(0, 4))?;
+    code.push(Instr::Local(0, 4, Bytes::Zero))?;
     code.push(Instr::Kill(first))?;
     code.push(Instr::Return(Some(value)))?;
     start_program(alloc, 1, code)

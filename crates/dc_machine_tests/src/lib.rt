@@ -2,11 +2,15 @@
 #![tactic(auto)]
 
 #[cfg(test)]
+mod beyond;
+#[cfg(test)]
 mod build;
 #[cfg(test)]
 mod jumps;
 #[cfg(test)]
 mod kills;
+#[cfg(test)]
+mod last_objects;
 #[cfg(test)]
 mod numbers;
 #[cfg(test)]

@@ -175,8 +175,8 @@ const ROWS: [Row; 10] = [
     },
 ];
 
-// The counts in their order.
-fn counted(report: &RunReport) -> [u128; 8] {
+/// The counts in their order.
+pub fn counted(report: &RunReport) -> [u128; 8] {
     let c = &report.counts;
     [
         c.draws, c.creates, c.kills, c.writes, c.frees, c.checks, c.calls, c.returns,

@@ -2,11 +2,10 @@
 ghost use Rattle.std.specs.Prelude.{◌≡◌, ◌++◌, [], ◌∷◌, IfOk, OnOk, map, flat_map, codes};
 ghost use Rattle.std.specs.Fmt.{decimal};
 ghost use Rattle.dc_goto.specs.View.{instr_view, sig_view, static_view, body_view, goto_view};
-ghost use Rattle.dc_goto.specs.Text.{kind_word, spaced, result_word, instr_line, sig_line, static_line, body_lines, lines_of, line_bytes};
+ghost use Rattle.dc_goto.specs.Text.{spaced, instr_line, sig_line, static_line, body_lines, lines_of, line_bytes};
 
 use crate::instructions::put_instr;
-use crate::words::{put_spaced, put_spaced_decimal, put_spaced_kind};
-use dc_core::NumKind;
+use crate::words::{put_kinds, put_result, put_spaced, put_spaced_decimal};
 use dc_goto::{Body, GotoProgram, Instr, Sig, StaticVar};
 use sqlite_items::Items;
 use std::alloc::{AllocError, Global};
@@ -21,32 +20,6 @@ fn put_line(lines: &mut Lines, line: Vec<u8>) -> Result<(), AllocError>
     let mut line = line;
     line.push(b'\n')?;
     lines.push(Items::from_vec(line))
-}
-
-// Kinds, each behind a space.
-fn put_kinds(out: &mut Vec<u8>, kinds: &[NumKind]) -> Result<(), AllocError>
-    ensures { OnOk result (out.new.items ≡ out.old.items ++ spaced (map kind_word kinds.now)) }
-{
-    for kind in kinds {
-        put_spaced_kind(out, *kind)?;
-    }
-    Ok(())
-}
-
-// The kind of a result that a function may not have, behind a space.
-fn put_result(out: &mut Vec<u8>, kind: &Option<NumKind>) -> Result<(), AllocError>
-    ensures { OnOk result (out.new.items ≡ out.old.items ++ 32 ∷ result_word kind.now) }
-{
-    match kind {
-        None => {
-            out.extend_from_slice(b" void")?;
-            Ok(())
-        }
-        Some(kind) => {
-            put_spaced_kind(out, *kind)?;
-            Ok(())
-        }
-    }
 }
 
 // The line of a function.

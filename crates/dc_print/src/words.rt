@@ -1,11 +1,11 @@
-// Kinds, operators and expressions as text.
-ghost use Rattle.std.specs.Prelude.{◌≡◌, ◌++◌, ◌∷◌, OnOk};
+// Kinds and other words as text.
+ghost use Rattle.std.specs.Prelude.{◌≡◌, ◌++◌, ◌∷◌, OnOk, map};
 ghost use Rattle.std.specs.Fmt.{decimal};
-ghost use Rattle.dc_core.specs.View.{term_view};
-ghost use Rattle.dc_goto.specs.Text.{kind_word, lazy_word, operator_word, term_word, unary_word};
+ghost use Rattle.dc_goto.specs.Text.{bytes_word, kind_word, result_word, sharing_word, spaced};
 
-use crate::decimal::{put_decimal, put_number};
-use dc_core::{BinOp, LazyOp, NumKind, Term, UnOp};
+use crate::decimal::put_decimal;
+use dc_core::NumKind;
+use dc_goto::{Bytes, Sharing};
 use std::alloc::{AllocError, Global};
 
 /// Adds the word of a kind.
@@ -26,134 +26,32 @@ pub fn put_kind(out: &mut Vec<u8>, kind: NumKind) -> Result<(), AllocError>
     }
 }
 
-/// Adds the word of an operator.
-pub fn put_operator(out: &mut Vec<u8>, op: BinOp) -> Result<(), AllocError>
-    ensures { OnOk result (out.new.items ≡ out.old.items ++ operator_word op) }
+/// Adds the word of the first bytes of an object.
+pub fn put_bytes(out: &mut Vec<u8>, bytes: Bytes) -> Result<(), AllocError>
+    ensures { OnOk result (out.new.items ≡ out.old.items ++ bytes_word bytes) }
 {
-    match op {
-        BinOp::Add => out.extend_from_slice(b"add"),
-        BinOp::Sub => out.extend_from_slice(b"sub"),
-        BinOp::Mul => out.extend_from_slice(b"mul"),
-        BinOp::Div => out.extend_from_slice(b"div"),
-        BinOp::Rem => out.extend_from_slice(b"rem"),
-        BinOp::Shl => out.extend_from_slice(b"shl"),
-        BinOp::Shr => out.extend_from_slice(b"shr"),
-        BinOp::And => out.extend_from_slice(b"and"),
-        BinOp::Or => out.extend_from_slice(b"or"),
-        BinOp::Xor => out.extend_from_slice(b"xor"),
-        BinOp::Lt => out.extend_from_slice(b"lt"),
-        BinOp::Le => out.extend_from_slice(b"le"),
-        BinOp::Gt => out.extend_from_slice(b"gt"),
-        BinOp::Ge => out.extend_from_slice(b"ge"),
-        BinOp::Eq => out.extend_from_slice(b"eq"),
-        BinOp::Ne => out.extend_from_slice(b"ne"),
+    match bytes {
+        Bytes::Zero => out.extend_from_slice(b"zero"),
+        Bytes::Chosen => out.extend_from_slice(b"chosen"),
     }
 }
 
-/// Adds the word of an operator on one value.
-pub fn put_unary(out: &mut Vec<u8>, op: UnOp) -> Result<(), AllocError>
-    ensures { OnOk result (out.new.items ≡ out.old.items ++ unary_word op) }
+/// Adds the word that says whether two ranges may share bytes.
+pub fn put_sharing(out: &mut Vec<u8>, sharing: Sharing) -> Result<(), AllocError>
+    ensures { OnOk result (out.new.items ≡ out.old.items ++ sharing_word sharing) }
 {
-    match op {
-        UnOp::Neg => out.extend_from_slice(b"neg"),
-        UnOp::Not => out.extend_from_slice(b"not"),
+    match sharing {
+        Sharing::Any => out.extend_from_slice(b"any"),
+        Sharing::Apart => out.extend_from_slice(b"apart"),
     }
 }
 
-/// Adds the word of an operator that may leave its second operand unasked.
-pub fn put_lazy(out: &mut Vec<u8>, op: LazyOp) -> Result<(), AllocError>
-    ensures { OnOk result (out.new.items ≡ out.old.items ++ lazy_word op) }
-{
-    match op {
-        LazyOp::Both => out.extend_from_slice(b"and2"),
-        LazyOp::Either => out.extend_from_slice(b"or2"),
-    }
-}
-
-/// Adds an expression in its parentheses.
-#[cycle(put_term)]
-pub fn put_term(alloc: Global, out: &mut Vec<u8>, t: &Term) -> Result<(), AllocError>
-    ensures { OnOk result (out.new.items ≡ out.old.items ++ term_word (term_view t.now)) }
-{
-    match t {
-        Term::Constant(kind, z) => {
-            out.extend_from_slice(b"(")?;
-            put_kind(out, *kind)?;
-            out.extend_from_slice(b" ")?;
-            put_number(alloc, out, *z)?;
-            out.extend_from_slice(b")")?;
-            Ok(())
-        }
-        Term::Register(r) => {
-            out.extend_from_slice(b"(reg ")?;
-            put_decimal(alloc, out, *r)?;
-            out.extend_from_slice(b")")?;
-            Ok(())
-        }
-        Term::Object(n) => {
-            out.extend_from_slice(b"(obj ")?;
-            put_decimal(alloc, out, *n)?;
-            out.extend_from_slice(b")")?;
-            Ok(())
-        }
-        Term::Load(kind, address) => {
-            out.extend_from_slice(b"(load")?;
-            put_spaced_kind(out, *kind)?;
-            put_spaced_term(alloc, out, address.get())?;
-            out.extend_from_slice(b")")?;
-            Ok(())
-        }
-        Term::Convert(to, from, value) => {
-            out.extend_from_slice(b"(conv")?;
-            put_spaced_kind(out, *to)?;
-            put_spaced_kind(out, *from)?;
-            put_spaced_term(alloc, out, value.get())?;
-            out.extend_from_slice(b")")?;
-            Ok(())
-        }
-        Term::Unary(op, kind, value) => {
-            out.extend_from_slice(b"(")?;
-            put_unary(out, *op)?;
-            put_spaced_kind(out, *kind)?;
-            put_spaced_term(alloc, out, value.get())?;
-            out.extend_from_slice(b")")?;
-            Ok(())
-        }
-        Term::Binary(op, kind, a, b) => {
-            out.extend_from_slice(b"(")?;
-            put_operator(out, *op)?;
-            put_spaced_kind(out, *kind)?;
-            put_spaced_term(alloc, out, a.get())?;
-            put_spaced_term(alloc, out, b.get())?;
-            out.extend_from_slice(b")")?;
-            Ok(())
-        }
-        Term::Lazy(op, a, b) => {
-            out.extend_from_slice(b"(")?;
-            put_lazy(out, *op)?;
-            put_spaced_term(alloc, out, a.get())?;
-            put_spaced_term(alloc, out, b.get())?;
-            out.extend_from_slice(b")")?;
-            Ok(())
-        }
-        Term::Choice(test, a, b) => {
-            out.extend_from_slice(b"(if")?;
-            put_spaced_term(alloc, out, test.get())?;
-            put_spaced_term(alloc, out, a.get())?;
-            put_spaced_term(alloc, out, b.get())?;
-            out.extend_from_slice(b")")?;
-            Ok(())
-        }
-    }
-}
-
-/// Adds a space and an expression.
-#[cycle(put_term)]
-pub fn put_spaced_term(alloc: Global, out: &mut Vec<u8>, t: &Term) -> Result<(), AllocError>
-    ensures { OnOk result (out.new.items ≡ out.old.items ++ 32 ∷ term_word (term_view t.now)) }
+/// Adds a space and a word.
+pub fn put_spaced(out: &mut Vec<u8>, word: &[u8]) -> Result<(), AllocError>
+    ensures { OnOk result (out.new.items ≡ out.old.items ++ 32 ∷ word.now) }
 {
     out.push(b' ')?;
-    put_term(alloc, out, t)?;
+    out.extend_from_slice(word)?;
     Ok(())
 }
 
@@ -175,11 +73,28 @@ pub fn put_spaced_kind(out: &mut Vec<u8>, kind: NumKind) -> Result<(), AllocErro
     Ok(())
 }
 
-/// Adds a space and a word.
-pub fn put_spaced(out: &mut Vec<u8>, word: &[u8]) -> Result<(), AllocError>
-    ensures { OnOk result (out.new.items ≡ out.old.items ++ 32 ∷ word.now) }
+/// Adds kinds, each behind a space.
+pub fn put_kinds(out: &mut Vec<u8>, kinds: &[NumKind]) -> Result<(), AllocError>
+    ensures { OnOk result (out.new.items ≡ out.old.items ++ spaced (map kind_word kinds.now)) }
 {
-    out.push(b' ')?;
-    out.extend_from_slice(word)?;
+    for kind in kinds {
+        put_spaced_kind(out, *kind)?;
+    }
     Ok(())
+}
+
+/// Adds a space and the kind of a result that a function may not have.
+pub fn put_result(out: &mut Vec<u8>, kind: &Option<NumKind>) -> Result<(), AllocError>
+    ensures { OnOk result (out.new.items ≡ out.old.items ++ 32 ∷ result_word kind.now) }
+{
+    match kind {
+        None => {
+            out.extend_from_slice(b" void")?;
+            Ok(())
+        }
+        Some(kind) => {
+            put_spaced_kind(out, *kind)?;
+            Ok(())
+        }
+    }
 }

@@ -1,8 +1,8 @@
 // Lines of a text.
-ghost use Rattle.std.specs.Prelude.{◌≡◌, IsOk, ◌++◌, ◌∷◌, ℕ, IfOk, IsErrOf, OnOk, None, codes, length, map, []};
+ghost use Rattle.std.specs.Prelude.{◌≡◌, ◌++◌, ◌∷◌, ℕ, IfOk, IsErrOf, OnOk, None, codes, map, []};
 ghost use Rattle.dc_text.specs.Words.{is_word};
 ghost use Rattle.dc_goto.specs.Lines.{AreLines, FirstFormless, Instruction, Version, is_body_name};
-ghost use Rattle.dc_goto.specs.Reading.{function_line, got, literal, opening_line, read_form as form_read, read_instr as instr_read, read_kind, read_line as line_read, read_list, read_many, read_name, read_number, read_one, read_three, read_two, read_word, result_of, static_line_of, then_read};
+ghost use Rattle.dc_goto.specs.Reading.{function_line, got, literal, opening_line, read_form as form_read, read_instr as instr_read, read_kind, read_line as line_read, read_list, read_name, read_number, read_one, read_three, read_two, read_word, result_of, static_line_of, then_read};
 ghost use Rattle.dc_scan.specs.View.{line_view};
 ghost use Rattle.dc_scan.specs.declared.fault.Scan.TheVariants.{Line as LineFault, Shape as ShapeFault};
 ghost use Rattle.dc_scan.specs.declared.form.Form.TheVariants.{NoForm};
@@ -11,10 +11,11 @@ use crate::cursor::Cursor;
 use crate::fault::Scan;
 use crate::form::Form;
 use crate::instructions::read_instr;
-use crate::words::{expect_word, next_body_name, next_kind, next_name, next_number, next_result};
-use dc_core::{Name, NumKind};
+use crate::pieces::{expect_word, next_body_name, next_name, next_number, next_result};
+use crate::sequence::followed;
+use crate::signatures::read_params;
+use dc_core::Name;
 use dc_goto::{Instr, Sig, StaticVar};
-use sqlite_items::Items;
 use std::alloc::{AllocError, Global};
 
 /// The first line of a body: its name, and the numbers of its parameters and registers.
@@ -51,19 +52,6 @@ fn read_version(cursor: &mut Cursor) -> Result<Line, Form>
     Ok(Line::Version)
 }
 
-// As many kinds as stand there, each behind a space.
-fn read_kinds(alloc: Global, cursor: &mut Cursor) -> Result<Items<NumKind>, Form>
-    ensures found { IfOk result (λ kinds. read_many read_kind (length cursor.old) [] cursor.old ≡ got kinds cursor.new) }
-    ensures none { IsErrOf result NoForm → read_many read_kind (length cursor.old) [] cursor.old ≡ None }
-{
-    let mut kinds = Items::new(alloc);
-    'each: while cursor.begins_with(b' ') {
-        let kind = next_kind(cursor)?;
-        kinds.push(kind)?;
-    }
-    Ok(kinds)
-}
-
 // A function, behind its first word.
 fn read_function(alloc: Global, cursor: &mut Cursor) -> Result<Line, Form>
     ensures found { IfOk result (λ line. read_list (read_name is_word) (read_word result_of) read_kind function_line cursor.old ≡ got (line_view line) cursor.new) }
@@ -71,7 +59,7 @@ fn read_function(alloc: Global, cursor: &mut Cursor) -> Result<Line, Form>
 {
     let name = next_name(alloc, cursor)?;
     let result = next_result(cursor)?;
-    let params = read_kinds(alloc, cursor)?;
+    let params = read_params(alloc, cursor)?;
     Ok(Line::Function(Sig {
         name,
         result,
@@ -127,15 +115,6 @@ fn read_form(alloc: Global, word: &[u8], cursor: &mut Cursor) -> Result<Line, Fo
     } else {
         read_instruction(alloc, word, cursor)
     }
-}
-
-// What was read, where what had to follow it was there.
-fn followed<T: Drop>(read: T, end: Result<(), Form>) -> Result<T, Form>
-    ensures found { IfOk result (λ value. (value ≡ read) × IsOk end) }
-    ensures none { IsErrOf result NoForm → IsErrOf end NoForm }
-{
-    end?;
-    Ok(read)
 }
 
 // A line form with its newline.

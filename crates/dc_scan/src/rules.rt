@@ -1,72 +1,16 @@
 // The rules for single instructions.
-ghost use Rattle.std.specs.Prelude.{◌≡◌, length, map};
-ghost use Rattle.std.specs.List.{list_all};
+ghost use Rattle.std.specs.Prelude.{◌≡◌};
 ghost use Rattle.std.specs.Option.{option_map};
 ghost use Rattle.dc_core.specs.View.{term_view};
-ghost use Rattle.dc_goto.specs.Shape.{is_size as size_is, leaves as instr_leaves, may_act as acts, may_call as calls, may_compute as computes, may_give as gives, may_mean as means, may_return as returns, may_take as takes, sig_of};
+ghost use Rattle.dc_goto.specs.Shape.{leaves as instr_leaves, may_act as acts, may_call as calls, may_pass as passes, may_return as returns, may_take as takes};
 ghost use Rattle.dc_goto.specs.View.{instr_view, sig_view};
 ghost use Rattle.dc_scan.specs.View.{head_view};
 
 use crate::functions::Functions;
 use crate::lines::BodyHead;
-use dc_core::{BinOp, NumKind, Term};
+use crate::term_rules::{all_mean, is_size, may_give, may_mean, three_mean, two_mean};
+use dc_core::{NumKind, Term};
 use dc_goto::{Instr, Sig};
-
-/// Whether this is the size of an object.
-pub fn is_size(size: u64) -> bool
-    ensures { result ≡ size_is size }
-{
-    1 <= size && size <= 16777216
-}
-
-// Whether an operator may be of a kind: comparisons are of pointers too, arithmetic is not.
-fn may_compute(op: BinOp, kind: NumKind) -> bool
-    ensures { result ≡ computes op kind }
-{
-    match op {
-        BinOp::Lt | BinOp::Le | BinOp::Gt | BinOp::Ge | BinOp::Eq | BinOp::Ne => true,
-        _ => !kind.is_pointer(),
-    }
-}
-
-// Whether an expression keeps the rules, where there are that many objects and registers.
-fn may_mean(objects: u64, regs: u64, term: &Term) -> bool
-    ensures { result ≡ means objects regs (term_view term.now) }
-{
-    match term {
-        Term::Constant(kind, number) => kind.is_value(*number),
-        Term::Register(register) => *register < regs,
-        Term::Object(object) => *object <= objects,
-        Term::Load(_, address) => may_mean(objects, regs, address.get()),
-        Term::Convert(_, _, value) => may_mean(objects, regs, value.get()),
-        Term::Unary(_, kind, value) => !kind.is_pointer() && may_mean(objects, regs, value.get()),
-        Term::Binary(op, kind, left, right) => {
-            may_compute(*op, *kind)
-                && may_mean(objects, regs, left.get())
-                && may_mean(objects, regs, right.get())
-        }
-        Term::Lazy(_, left, right) => {
-            may_mean(objects, regs, left.get()) && may_mean(objects, regs, right.get())
-        }
-        Term::Choice(test, then, otherwise) => {
-            may_mean(objects, regs, test.get())
-                && may_mean(objects, regs, then.get())
-                && may_mean(objects, regs, otherwise.get())
-        }
-    }
-}
-
-// Whether all of the expressions keep the rules.
-fn all_mean(objects: u64, regs: u64, terms: &[Term]) -> bool
-    ensures { result ≡ list_all (means objects regs) (map term_view terms.now) }
-{
-    for term in terms {
-        if !may_mean(objects, regs, term) {
-            return false;
-        }
-    }
-    true
-}
 
 // Whether the register, which may be left away, is one of the body's.
 fn may_take(regs: u64, register: &Option<u64>) -> bool
@@ -78,14 +22,26 @@ fn may_take(regs: u64, register: &Option<u64>) -> bool
     }
 }
 
-// Whether a call has as many arguments as the function, and no register where it gives nothing.
+// Whether a call has as many arguments as there are parameters, and no register where nothing is given.
+fn may_pass(
+    gives: &Option<NumKind>,
+    params: &[NumKind],
+    register: &Option<u64>,
+    arguments: usize,
+) -> bool
+    ensures { result ≡ passes gives.now params.now register.now arguments }
+{
+    arguments == params.len() && (gives.is_some() || !register.is_some())
+}
+
+// Whether the called function is listed, and its call passes what it takes.
 fn may_call(function: Option<&Sig>, register: &Option<u64>, arguments: usize) -> bool
     ensures { result ≡ calls (option_map (λ sig. sig_view sig.now) function.entry) register.now arguments }
 {
-    let Some(sig) = function else {
-        return false;
-    };
-    arguments == sig.params.len() && (sig.result.is_some() || !register.is_some())
+    match function {
+        Some(sig) => may_pass(&sig.result, sig.params.as_slice(), register, arguments),
+        None => false,
+    }
 }
 
 // Whether a return has a value exactly where the function gives one.
@@ -98,16 +54,6 @@ fn may_return(function: Option<&Sig>, value: &Option<Term>) -> bool
     match value {
         None => !sig.result.is_some(),
         Some(_) => sig.result.is_some(),
-    }
-}
-
-// Whether a returned value keeps the rules.
-fn may_give(objects: u64, regs: u64, value: &Option<Term>) -> bool
-    ensures { result ≡ gives objects regs (option_map term_view value.now) }
-{
-    match value {
-        None => true,
-        Some(value) => may_mean(objects, regs, value),
     }
 }
 
@@ -125,44 +71,55 @@ pub fn may_act<'a>(
     match instr {
         Instr::Set(register, value) => *register < regs && may_mean(objects, regs, value),
         Instr::Keep(register, value) => *register < regs && may_mean(objects, regs, value),
-        Instr::Store(_, address, value) => {
-            may_mean(objects, regs, address) && may_mean(objects, regs, value)
+        Instr::Draw(register, _) => *register < regs,
+        Instr::Store(_, address, value) => two_mean(objects, regs, address, value),
+        Instr::Init(_, address, value) => two_mean(objects, regs, address, value),
+        Instr::Copy(to, from, len) => three_mean(objects, regs, to, from, len),
+        Instr::Fill(to, byte, len) => three_mean(objects, regs, to, byte, len),
+        Instr::Probe(_, one, other, len) => three_mean(objects, regs, one, other, len),
+        Instr::Local(register, size, _) => *register < regs && is_size(*size),
+        Instr::Alloc(register, count, size, _) => {
+            *register < regs && two_mean(objects, regs, count, size)
         }
-        Instr::Init(_, address, value) => {
-            may_mean(objects, regs, address) && may_mean(objects, regs, value)
-        }
-        Instr::LocalZero(register, size) => *register < regs && is_size(*size),
-        Instr::Covers(_, address, len) => {
-            may_mean(objects, regs, address) && may_mean(objects, regs, len)
-        }
+        Instr::Free(pointer) => may_mean(objects, regs, pointer),
+        Instr::Goto(place) => *place < count,
+        Instr::IfNot(test, place) => may_mean(objects, regs, test) && *place < count,
         Instr::Call(register, name, arguments) => {
             may_call(functions.find(name.as_slice()), register, arguments.len())
                 && may_take(regs, register)
+                && all_mean(objects, regs, arguments.as_slice())
+        }
+        Instr::CallThrough(register, pointer, result, params, arguments) => {
+            may_pass(result, params.as_slice(), register, arguments.len())
+                && may_take(regs, register)
+                && may_mean(objects, regs, pointer)
                 && all_mean(objects, regs, arguments.as_slice())
         }
         Instr::Return(value) => {
             may_return(functions.find(head.name.as_slice()), value)
                 && may_give(objects, regs, value)
         }
-        Instr::Goto(place) => *place < count,
-        Instr::IfNot(test, place) => may_mean(objects, regs, test) && *place < count,
-        Instr::Draw(register, _) => *register < regs,
         Instr::Assert(_, test) => may_mean(objects, regs, test),
+        Instr::Check(_, test) => may_mean(objects, regs, test),
         Instr::Assume(test) => may_mean(objects, regs, test),
         Instr::Require(test) => may_mean(objects, regs, test),
         Instr::Range(_, condition, address, len) => {
-            may_mean(objects, regs, condition)
-                && may_mean(objects, regs, address)
-                && may_mean(objects, regs, len)
+            three_mean(objects, regs, condition, address, len)
         }
-        Instr::Check(_, test) => may_mean(objects, regs, test),
+        Instr::Target(_, condition, pointer) => two_mean(objects, regs, condition, pointer),
+        Instr::Covers(_, address, len) => two_mean(objects, regs, address, len),
+        Instr::MayFree(_, pointer) => may_mean(objects, regs, pointer),
         Instr::Kill(_)
         | Instr::Trap
+        | Instr::Push
+        | Instr::Pop
+        | Instr::Inside(_, _)
+        | Instr::Seen
+        | Instr::Havoc
+        | Instr::Frees
         | Instr::Statics
         | Instr::OutsideObjects
-        | Instr::Seen
-        | Instr::Push
-        | Instr::Pop => true,
+        | Instr::NewObjects => true,
     }
 }
 

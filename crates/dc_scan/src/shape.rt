@@ -8,7 +8,8 @@ ghost use Rattle.dc_scan.specs.View.{head_view, line_view};
 
 use crate::functions::Functions;
 use crate::lines::{BodyHead, Line};
-use crate::rules::{is_size, leaves, may_act};
+use crate::rules::{leaves, may_act};
+use crate::term_rules::is_size;
 use dc_core::Name;
 use dc_goto::Instr;
 use dc_names::Names;

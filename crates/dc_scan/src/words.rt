@@ -1,17 +1,13 @@
 // What words mean.
-ghost use Rattle.std.specs.Prelude.{◌≡◌, IfOk, IsErrOf, None, true, codes};
+ghost use Rattle.std.specs.Prelude.{◌≡◌};
 ghost use Rattle.std.specs.List.{list_all};
-ghost use Rattle.dc_text.specs.Words.{is_word};
 ghost use Rattle.dc_goto.specs.Lines.{is_body_name as body_name, is_check_name as check_name, is_check_part as check_part};
-ghost use Rattle.dc_goto.specs.Reading.{got, kind_of as kind_in, literal, operator_of as operator_in, read_kind, read_name, read_number, read_word, register_of as register_in, result_of as result_in, spaced_read};
-ghost use Rattle.dc_scan.specs.declared.form.Form.TheVariants.{NoForm};
+ghost use Rattle.dc_goto.specs.Reading.{are_outside as outside_in, bytes_of as bytes_in, kind_of as kind_in, operator_of as operator_in, register_of as register_in, result_of as result_in, sharing_of as sharing_in};
 
-use crate::cursor::Cursor;
-use crate::form::Form;
 use crate::numbers::number_of;
-use dc_core::{BinOp, Name, NumKind};
+use dc_core::{BinOp, NumKind};
+use dc_goto::{Bytes, Sharing};
 use dc_text::{is_formed, is_word_byte};
-use std::alloc::Global;
 
 /// The kind of the word.
 pub fn kind_of(word: &[u8]) -> Option<NumKind>
@@ -83,8 +79,8 @@ pub fn operator_of(word: &[u8]) -> Option<BinOp>
     }
 }
 
-// The kind of a result that a function may not have.
-fn result_of(word: &[u8]) -> Option<Option<NumKind>>
+/// The kind of a result that a function may not have.
+pub fn result_of(word: &[u8]) -> Option<Option<NumKind>>
     ensures { result ≡ result_in word.now }
 {
     if word == b"void".as_slice() {
@@ -96,8 +92,47 @@ fn result_of(word: &[u8]) -> Option<Option<NumKind>>
     }
 }
 
-// The register that may be left away.
-fn register_of(word: &[u8]) -> Option<Option<u64>>
+/// The first bytes of an object.
+pub fn bytes_of(word: &[u8]) -> Option<Bytes>
+    ensures { result ≡ bytes_in word.now }
+{
+    if word == b"zero".as_slice() {
+        Some(Bytes::Zero)
+    } else if word == b"chosen".as_slice() {
+        Some(Bytes::Chosen)
+    } else {
+        None
+    }
+}
+
+/// Whether two ranges may share bytes.
+pub fn sharing_of(word: &[u8]) -> Option<Sharing>
+    ensures { result ≡ sharing_in word.now }
+{
+    if word == b"any".as_slice() {
+        Some(Sharing::Any)
+    } else if word == b"apart".as_slice() {
+        Some(Sharing::Apart)
+    } else {
+        None
+    }
+}
+
+/// Whether drawn objects are the outside ones, by the number of their sorts.
+pub fn are_outside(word: &[u8]) -> Option<bool>
+    ensures { result ≡ outside_in word.now }
+{
+    if word == b"4".as_slice() {
+        Some(true)
+    } else if word == b"3".as_slice() {
+        Some(false)
+    } else {
+        None
+    }
+}
+
+/// The register that may be left away.
+pub fn register_of(word: &[u8]) -> Option<Option<u64>>
     ensures { result ≡ register_in word.now }
 {
     if word == b"-".as_slice() {
@@ -123,8 +158,8 @@ fn all_check_bytes(bytes: &[u8]) -> bool
     bytes.iter().all(|b| is_check_byte(*b))
 }
 
-// Whether this is formed as the name of a check.
-fn is_check_name(bytes: &[u8]) -> bool
+/// Whether this is formed as the name of a check.
+pub fn is_check_name(bytes: &[u8]) -> bool
     ensures { result ≡ check_name bytes.now }
 {
     let [first, tail @ ..] = bytes else {
@@ -133,111 +168,9 @@ fn is_check_name(bytes: &[u8]) -> bool
     is_check_byte(*first) && all_check_bytes(tail)
 }
 
-// Whether this is formed as the name of a body.
-fn is_body_name(bytes: &[u8]) -> bool
+/// Whether this is formed as the name of a body.
+pub fn is_body_name(bytes: &[u8]) -> bool
     ensures { result ≡ body_name bytes.now }
 {
     is_formed(bytes) || bytes == b".start".as_slice()
-}
-
-/// The number behind a space.
-pub fn next_number(cursor: &mut Cursor) -> Result<u64, Form>
-    ensures found { IfOk result (λ n. spaced_read read_number cursor.old ≡ got n cursor.new) }
-    ensures none { IsErrOf result NoForm → spaced_read read_number cursor.old ≡ None }
-{
-    cursor.expect(b' ')?;
-    match number_of(cursor.word()) {
-        Some(number) => Ok(number),
-        None => Err(Form::NoForm),
-    }
-}
-
-/// The kind behind a space.
-pub fn next_kind(cursor: &mut Cursor) -> Result<NumKind, Form>
-    ensures found { IfOk result (λ kind. spaced_read read_kind cursor.old ≡ got kind cursor.new) }
-    ensures none { IsErrOf result NoForm → spaced_read read_kind cursor.old ≡ None }
-{
-    cursor.expect(b' ')?;
-    match kind_of(cursor.word()) {
-        Some(kind) => Ok(kind),
-        None => Err(Form::NoForm),
-    }
-}
-
-/// The kind of a result behind a space.
-pub fn next_result(cursor: &mut Cursor) -> Result<Option<NumKind>, Form>
-    ensures found { IfOk result (λ kind. spaced_read (read_word result_in) cursor.old ≡ got kind cursor.new) }
-    ensures none { IsErrOf result NoForm → spaced_read (read_word result_in) cursor.old ≡ None }
-{
-    cursor.expect(b' ')?;
-    match result_of(cursor.word()) {
-        Some(kind) => Ok(kind),
-        None => Err(Form::NoForm),
-    }
-}
-
-/// The register, or `-`, behind a space.
-pub fn next_register(cursor: &mut Cursor) -> Result<Option<u64>, Form>
-    ensures found { IfOk result (λ register. spaced_read (read_word register_in) cursor.old ≡ got register cursor.new) }
-    ensures none { IsErrOf result NoForm → spaced_read (read_word register_in) cursor.old ≡ None }
-{
-    cursor.expect(b' ')?;
-    match register_of(cursor.word()) {
-        Some(register) => Ok(register),
-        None => Err(Form::NoForm),
-    }
-}
-
-/// The name behind a space.
-pub fn next_name(alloc: Global, cursor: &mut Cursor) -> Result<Name, Form>
-    ensures found { IfOk result (λ name. spaced_read (read_name is_word) cursor.old ≡ got name cursor.new) }
-    ensures none { IsErrOf result NoForm → spaced_read (read_name is_word) cursor.old ≡ None }
-{
-    cursor.expect(b' ')?;
-    let word = cursor.word();
-    if !is_formed(word) {
-        return Err(Form::NoForm);
-    }
-    let name = Name::copied(alloc, word)?;
-    Ok(name)
-}
-
-/// The name of a check behind a space.
-pub fn next_check_name(alloc: Global, cursor: &mut Cursor) -> Result<Name, Form>
-    ensures found { IfOk result (λ name. spaced_read (read_name check_name) cursor.old ≡ got name cursor.new) }
-    ensures none { IsErrOf result NoForm → spaced_read (read_name check_name) cursor.old ≡ None }
-{
-    cursor.expect(b' ')?;
-    let word = cursor.word();
-    if !is_check_name(word) {
-        return Err(Form::NoForm);
-    }
-    let name = Name::copied(alloc, word)?;
-    Ok(name)
-}
-
-/// The name of a body behind a space.
-pub fn next_body_name(alloc: Global, cursor: &mut Cursor) -> Result<Name, Form>
-    ensures found { IfOk result (λ name. spaced_read (read_name body_name) cursor.old ≡ got name cursor.new) }
-    ensures none { IsErrOf result NoForm → spaced_read (read_name body_name) cursor.old ≡ None }
-{
-    cursor.expect(b' ')?;
-    let word = cursor.word();
-    if !is_body_name(word) {
-        return Err(Form::NoForm);
-    }
-    let name = Name::copied(alloc, word)?;
-    Ok(name)
-}
-
-/// Passes over a space and this word.
-pub fn expect_word(cursor: &mut Cursor, word: &[u8]) -> Result<(), Form>
-    ensures found { IfOk result (λ done. spaced_read (read_word (literal word.now)) cursor.old ≡ got tt cursor.new) }
-    ensures none { IsErrOf result NoForm → spaced_read (read_word (literal word.now)) cursor.old ≡ None }
-{
-    cursor.expect(b' ')?;
-    if cursor.word() != word {
-        return Err(Form::NoForm);
-    }
-    Ok(())
 }

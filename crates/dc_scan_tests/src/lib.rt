@@ -8,6 +8,12 @@ mod answers;
 mod bounds;
 pub mod examples;
 #[cfg(test)]
+mod expressions;
+#[cfg(test)]
+mod frames;
+#[cfg(test)]
+mod instructions;
+#[cfg(test)]
 mod refused;
 #[cfg(test)]
 mod texts;

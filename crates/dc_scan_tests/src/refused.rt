@@ -7,7 +7,8 @@ struct Case {
     answer: Answer,
 }
 
-const CASES: [Case; 236] = [
+// Lines before the first body, and ends.
+const FRONTS: [Case; 34] = [
     Case {
         text: "dcc 1 \n",
         answer: Answer::Line(1),
@@ -144,6 +145,10 @@ const CASES: [Case; 236] = [
         text: "function f void\nfoo\n",
         answer: Answer::Line(2),
     },
+];
+
+// Lines of a body that are no line forms, and one that is.
+const LINES: [Case; 44] = [
     Case {
         text: "dcc 1\nbody .start 0 1\nset 0 (u64 02)\nreturn\nend\n",
         answer: Answer::Line(3),
@@ -277,7 +282,7 @@ const CASES: [Case; 236] = [
         answer: Answer::Line(3),
     },
     Case {
-        text: "dcc 1\nbody .start 0 1\nobjects 3\nreturn\nend\n",
+        text: "dcc 1\nbody .start 0 1\nobjects 5\nreturn\nend\n",
         answer: Answer::Line(3),
     },
     Case {
@@ -285,7 +290,7 @@ const CASES: [Case; 236] = [
         answer: Answer::Line(3),
     },
     Case {
-        text: "dcc 1\nbody .start 0 1\nlocal 0 4 chosen\nreturn\nend\n",
+        text: "dcc 1\nbody .start 0 1\nlocal 0 4 drawn\nreturn\nend\n",
         answer: Answer::Line(3),
     },
     Case {
@@ -320,6 +325,10 @@ const CASES: [Case; 236] = [
         text: "dcc 1\nbody .start 0 1\ntrap\0\nreturn\nend\n",
         answer: Answer::Line(3),
     },
+];
+
+// Constants, registers, objects and sizes at their limits, and lines that stand in the wrong place.
+const VALUES: [Case; 52] = [
     Case {
         text: "dcc 1\nbody .start 0 1\nset 0 (s32 -170141183460469231731687303715884105728)\nreturn\nend\n",
         answer: Answer::Shape(3),
@@ -528,6 +537,10 @@ const CASES: [Case; 236] = [
         text: "dcc 1\nbody .start 0 1\ntrap\nreturn\nend\n",
         answer: Answer::Scanned,
     },
+];
+
+// The order of the lines, names, bodies, calls and what is returned.
+const ORDERS: [Case; 42] = [
     Case {
         text: "",
         answer: Answer::Shape(1),
@@ -696,6 +709,10 @@ const CASES: [Case; 236] = [
         text: "dcc 1\nbody .start 0 0\nreturn\nend\n",
         answer: Answer::Scanned,
     },
+];
+
+// Jumps.
+const JUMPS: [Case; 21] = [
     Case {
         text: "dcc 1\nbody .start 0 1\ngoto 0\nend\n",
         answer: Answer::Scanned,
@@ -780,6 +797,10 @@ const CASES: [Case; 236] = [
         text: "dcc 1\nbody .start 0 1\npush\ngoto 1\n",
         answer: Answer::Shape(5),
     },
+];
+
+// What is kept, locals that die, tests, conversions and choices.
+const TESTS: [Case; 43] = [
     Case {
         text: "dcc 1\nbody .start 0 1\nkeep 0 (reg 0)\nreturn\nend\n",
         answer: Answer::Scanned,
@@ -955,11 +976,61 @@ const CASES: [Case; 236] = [
 ];
 
 #[test]
-fn refused(rt: HostRuntime) -> Result<(), Fail> {
-    for case in &CASES {
+fn fronts(rt: HostRuntime) -> Result<(), Fail> {
+    for case in &FRONTS {
         let answer = answer_to(rt.alloc(), case.text.as_bytes())?;
         assert_eq!(rt; answer, case.answer, "{:?}", case.text);
     }
+    Ok(())
+}
+
+#[test]
+fn lines(rt: HostRuntime) -> Result<(), Fail> {
+    for case in &LINES {
+        let answer = answer_to(rt.alloc(), case.text.as_bytes())?;
+        assert_eq!(rt; answer, case.answer, "{:?}", case.text);
+    }
+    Ok(())
+}
+
+#[test]
+fn values(rt: HostRuntime) -> Result<(), Fail> {
+    for case in &VALUES {
+        let answer = answer_to(rt.alloc(), case.text.as_bytes())?;
+        assert_eq!(rt; answer, case.answer, "{:?}", case.text);
+    }
+    Ok(())
+}
+
+#[test]
+fn orders(rt: HostRuntime) -> Result<(), Fail> {
+    for case in &ORDERS {
+        let answer = answer_to(rt.alloc(), case.text.as_bytes())?;
+        assert_eq!(rt; answer, case.answer, "{:?}", case.text);
+    }
+    Ok(())
+}
+
+#[test]
+fn jumps(rt: HostRuntime) -> Result<(), Fail> {
+    for case in &JUMPS {
+        let answer = answer_to(rt.alloc(), case.text.as_bytes())?;
+        assert_eq!(rt; answer, case.answer, "{:?}", case.text);
+    }
+    Ok(())
+}
+
+#[test]
+fn tests(rt: HostRuntime) -> Result<(), Fail> {
+    for case in &TESTS {
+        let answer = answer_to(rt.alloc(), case.text.as_bytes())?;
+        assert_eq!(rt; answer, case.answer, "{:?}", case.text);
+    }
+    Ok(())
+}
+
+#[test]
+fn strange_bytes(rt: HostRuntime) -> Result<(), Fail> {
     assert_eq!(rt; answer_to(rt.alloc(), b"\xff\n")?, Answer::Line(1));
     assert_eq!(rt;
         answer_to(rt.alloc(), b"dcc 1\nfunction \xc3\xa9 void\n")?,

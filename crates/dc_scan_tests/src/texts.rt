@@ -82,7 +82,70 @@ goto 4
 end
 ";
 
-const TEXTS: [&str; 6] = [EMPTY_FUNCTION, SET, RESULT, EDGES, KINDS, JUMPS];
+// Objects of each sort, their bytes, calls through pointers, and what sets one within the other hold and are asked.
+const OBJECTS: &str = "dcc 1
+function f void ptr u64
+function g s32
+static h 16777216
+body f 2 6
+local 2 16777216 chosen
+local 3 1 zero
+alloc 4 (reg 1) (u64 4) zero
+alloc 5 (u64 18446744073709551615) (u64 0) chosen
+copy (reg 4) (reg 2) (mul u64 (reg 1) (u64 4))
+fill (at 4 (reg 0) (s64 -1)) (u8 255) (size (reg 0))
+probe any (reg 4) (reg 2) (u64 16777216)
+probe apart (start (reg 4)) (at 16777216 (reg 0) (reg 1)) (offset (reg 2))
+mayfree f.frees.1 (reg 0)
+free (reg 0)
+callp - (reg 0) (sig void)
+callp 5 (obj 2) (sig s32)
+callp - (load ptr (obj 3)) (sig ptr ptr u64 bool) (reg 4) (diff 4 (reg 0) (reg 2)) (freed (reg 0))
+trap
+end
+body .start 0 2
+statics
+objects 4
+draw 0 ptr
+objects 3
+push
+range 1 (ok (reg 0) (u64 8)) (reg 0) (u64 8)
+target 1 (freeable (reg 0)) (reg 0)
+push
+range 18446744073709551615 (fresh (obj 3) (u64 1)) (obj 3) (u64 1)
+target 18446744073709551615 (new (reg 0) (u64 0)) (reg 0)
+inside f.assigns.1 18446744073709551615
+havoc
+frees
+seen
+pop
+pop
+callp 1 (obj 2) (sig u8 s8 s16 u16 s64 u32) (s8 0) (s16 1) (u16 2) (s64 3) (u32 4)
+return
+end
+";
+
+// Quantifiers within another, in its bounds and beside it, and pointers in order.
+const CLAIMS: &str = "dcc 1
+body .start 0 1
+draw 0 ptr
+require (inrange (start (reg 0)) (reg 0) (at 1 (start (reg 0)) (size (reg 0))))
+check a (forall 0 u64 (u64 0) (diff 1 (reg 0) (ptr 0)) (exists 1 s32 (conv s32 u64 (var 0)) (s32 9) (or2 (eq u64 (var 1) (var 0)) (forall 2 ptr (var 0) (var 1) (ok (var 2) (u64 1))))))
+assert b (and2 (exists 0 bool (exists 0 s8 (s8 -128) (s8 127) (var 0)) (forall 0 u16 (u16 0) (u16 1) (ne u16 (var 0) (u16 65535))) (var 0)) (exists 0 u8 (u8 0) (u8 9) (var 0)))
+return (offset (reg 0))
+end
+";
+
+const TEXTS: [&str; 8] = [
+    EMPTY_FUNCTION,
+    SET,
+    RESULT,
+    EDGES,
+    KINDS,
+    JUMPS,
+    OBJECTS,
+    CLAIMS,
+];
 
 #[test]
 fn texts(rt: HostRuntime) -> Result<(), Fail> {

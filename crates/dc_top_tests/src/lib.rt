@@ -6,12 +6,32 @@ mod answers;
 #[cfg(test)]
 mod broken_sources;
 #[cfg(test)]
+mod bytes;
+#[cfg(test)]
+mod calls;
+#[cfg(test)]
+mod cuts;
+#[cfg(test)]
+mod ends;
+#[cfg(test)]
+mod expressions;
+#[cfg(test)]
+mod forgotten;
+#[cfg(test)]
 mod forms;
 #[cfg(test)]
 mod harness;
 #[cfg(test)]
 mod instructions;
 #[cfg(test)]
+mod objects;
+#[cfg(test)]
 mod real_outside;
 #[cfg(test)]
 mod replays;
+#[cfg(test)]
+mod rows;
+#[cfg(test)]
+mod seen;
+#[cfg(test)]
+mod write_sets;

@@ -1,5 +1,5 @@
 -- Changes of one object of a memory.
-use Rattle.std.proofs.Common.{◌≡◌, ℕ, zero, suc, List, [], ◌∷◌, length, take, get_or, ◌+◌, ◌*◌, ◌^◌, ◌<◌, Bool, true, false, ◌&&◌, not, Option, Some, None, option_map, refl, ap, sym, ◌∙◌, arith}
+use Rattle.std.proofs.Common.{◌≡◌, ℕ, zero, suc, List, [], ◌∷◌, length, take, get_or, ◌+◌, ◌-◌, ◌*◌, ◌^◌, ◌<◌, ◌≤◌, Bool, true, false, ◌&&◌, not, Option, Some, None, option_map, refl, ap, sym, ◌∙◌, arith}
 use Rattle.dc_memory.specs.declared.object.Object.{Object}
 use Rattle.dc_memory.specs.declared.object.ObjKind.{ObjKind}
 use Rattle.dc_memory.specs.Objects.{Memory, IsObject, IsMemory, object_at, update, changed, killed, function_kind, seen}
@@ -52,6 +52,18 @@ put_at-few count values [] e = refl
 put_at-few count [] (x ∷ xs) e = rw (take-nil count) refl
 put_at-few zero (v ∷ values) (x ∷ xs) e = absurd (omega (arith, e))
 put_at-few (suc count) (v ∷ values) (x ∷ xs) e = ap (λ l. v ∷ l) (put_at-few count values xs (omega (arith, e)))
+
+-- so it is from an index on
+put_at-few-from : (from count : ℕ) (values xs : List ℕ) → count ≡ min (length values) (length xs - from) → put_at from (take count values) xs ≡ put_at from values xs
+put_at-few-from from count values [] e = refl
+put_at-few-from zero count values (x ∷ xs) e = put_at-few count values (x ∷ xs) (e ∙ ap (min (length values)) (omega arith))
+put_at-few-from (suc from) count values (x ∷ xs) e = ap (λ l. x ∷ l) (put_at-few-from from count values xs (e ∙ ap (min (length values)) (omega arith)))
+
+-- behind the last byte there is nothing to write
+put_at-beyond : (from : ℕ) (values xs : List ℕ) → length xs < from → put_at from values xs ≡ xs
+put_at-beyond from values [] h = refl
+put_at-beyond zero values (x ∷ xs) h = absurd (omega arith)
+put_at-beyond (suc from) values (x ∷ xs) h = ap (λ l. x ∷ l) (put_at-beyond from values xs (omega arith))
 
 -- a member of a memory is an object
 is_object : (m : Memory) (n : ℕ) (o : Object) → object_at m n ≡ Some o → IsMemory m → IsObject o
@@ -110,40 +122,58 @@ nothing-beyond [] (suc k) lt = refl
 nothing-beyond (o ∷ m) (suc zero) lt = absurd (omega arith)
 nothing-beyond (o ∷ m) (suc (suc k)) lt = nothing-beyond m (suc k) (omega arith)
 
-start-object : (n p : ℕ) → p ≡ n * 2 ^ 48 → object_of p ≡ n
+place-object : (n from p : ℕ) → p ≡ n * 2 ^ 48 + from → from < 2 ^ 48 → object_of p ≡ n
 unfolding object_of
-start-object n p e = omega (arith, e)
+place-object n from p e h = omega (arith, e)
 
-start-offset : (n p : ℕ) → p ≡ n * 2 ^ 48 → offset_of p ≡ 0
+place-offset : (n from p : ℕ) → p ≡ n * 2 ^ 48 + from → from < 2 ^ 48 → offset_of p ≡ from
 unfolding offset_of
-start-offset n p e = omega (arith, e)
+place-offset n from p e h = omega (arith, e)
 
-within : (count : ℕ) (values xs : List ℕ) → count ≡ min (length values) (length xs) → nat_le (0 + length (take count values)) (length xs) ≡ true
-within count values xs e = grind (arith, nat_tests, length-take, e)
+within : (from count : ℕ) (values xs : List ℕ) → from ≤ length xs → count ≡ min (length values) (length xs - from) → nat_le (from + length (take count values)) (length xs) ≡ true
+within from count values xs h e = grind (arith, nat_tests, length-take, e)
+
+-- where an object's bytes are written: its number, the index of the first of them, the place, and how many there is room for
+pub record HasRoom (n from p size count : ℕ) (values : List ℕ) : Type 0 where
+  pub place : p ≡ n * 2 ^ 48 + from
+  pub first : from ≤ size
+  pub small : size ≤ 16777216
+  pub few : count ≡ min (length values) (size - from)
 
 -- as many bytes as there is room for are inside
-pub room : (m : Memory) (n : ℕ) (kind : ObjKind) (live : Bool) (size count : ℕ) (values : List ℕ) → Some (kind, live, size) ≡ option_map seen (object_at m n) → live ≡ true
-    → (p : ℕ) → p ≡ n * 2 ^ 48 → count ≡ min (length values) size → is_inside m p (length (take count values)) ≡ true
-room m n kind live size count values e alive p start few =
+pub room : (m : Memory) (n from p : ℕ) (kind : ObjKind) (live : Bool) (size count : ℕ) (values : List ℕ) → Some (kind, live, size) ≡ option_map seen (object_at m n) → live ≡ true
+    → HasRoom n from p size count values → is_inside m p (length (take count values)) ≡ true
+room m n from p kind live size count values e alive h =
     let s = is_seen m n kind live size e in
     let alive_object : s.object.live ≡ true = sym s.is_live ∙ alive in
-    rw (start-object n p start, start-offset n p start, s.there, alive_object) (within count values s.object.bytes (few ∙ ap (min (length values)) s.is_size))
+    let low : from < 2 ^ 48 = omega (arith, h.first, h.small) in
+    let first : from ≤ length s.object.bytes = omega (arith, h.first, s.is_size) in
+    rw (place-object n from p h.place low, place-offset n from p h.place low, s.there, alive_object)
+    (within from count values s.object.bytes first (h.few ∙ ap (λ l. min (length values) (l - from)) s.is_size))
 
 -- they are all that can be written
-pub rewrites : (m : Memory) (n : ℕ) (kind : ObjKind) (live : Bool) (size count : ℕ) (values : List ℕ) → Some (kind, live, size) ≡ option_map seen (object_at m n)
-    → (p : ℕ) → p ≡ n * 2 ^ 48 → count ≡ min (length values) size → written p (take count values) m ≡ changed n (with_bytes 0 values) m
-rewrites m n kind live size count values e p start few =
+pub rewrites : (m : Memory) (n from p : ℕ) (kind : ObjKind) (live : Bool) (size count : ℕ) (values : List ℕ) → Some (kind, live, size) ≡ option_map seen (object_at m n)
+    → HasRoom n from p size count values → written p (take count values) m ≡ changed n (with_bytes from values) m
+rewrites m n from p kind live size count values e h =
     let s = is_seen m n kind live size e in
-    rw (start-object n p start, start-offset n p start) (changed-here (with_bytes 0 (take count values)) (with_bytes 0 values) m n s.object s.there
-    (ap (λ bytes. record s.object { bytes = bytes }) (put_at-few count values s.object.bytes (few ∙ ap (min (length values)) s.is_size))))
+    let low : from < 2 ^ 48 = omega (arith, h.first, h.small) in
+    rw (place-object n from p h.place low, place-offset n from p h.place low) (changed-here (with_bytes from (take count values)) (with_bytes from values) m n s.object s.there
+    (ap (λ bytes. record s.object { bytes = bytes }) (put_at-few-from from count values s.object.bytes (h.few ∙ ap (λ l. min (length values) (l - from)) s.is_size))))
 
 -- a dead object has no byte to be written
-pub left_dead : (m : Memory) (n : ℕ) (kind : ObjKind) (live : Bool) (size : ℕ) (values : List ℕ) → Some (kind, live, size) ≡ option_map seen (object_at m n) → live ≡ false → IsMemory m
-    → m ≡ changed n (with_bytes 0 values) m
-left_dead m n kind live size values e lifeless memory =
+pub left_dead : (m : Memory) (n from : ℕ) (kind : ObjKind) (live : Bool) (size : ℕ) (values : List ℕ) → Some (kind, live, size) ≡ option_map seen (object_at m n) → live ≡ false → IsMemory m
+    → m ≡ changed n (with_bytes from values) m
+left_dead m n from kind live size values e lifeless memory =
     let s = is_seen m n kind live size e in
     let none : s.object.bytes ≡ [] = (is_object m n s.object s.there memory).dead (sym s.is_live ∙ lifeless) in
-    sym (changed-kept (with_bytes 0 values) m n s.object s.there (ap (λ bytes. record s.object { bytes = bytes }) (rw none refl)))
+    sym (changed-kept (with_bytes from values) m n s.object s.there (ap (λ bytes. record s.object { bytes = bytes }) (rw none refl)))
+
+-- behind the last byte of an object there is none
+pub left_beyond : (m : Memory) (n from : ℕ) (kind : ObjKind) (live : Bool) (size : ℕ) (values : List ℕ) → Some (kind, live, size) ≡ option_map seen (object_at m n) → size < from
+    → m ≡ changed n (with_bytes from values) m
+left_beyond m n from kind live size values e beyond =
+    let s = is_seen m n kind live size e in
+    sym (changed-kept (with_bytes from values) m n s.object s.there (ap (λ bytes. record s.object { bytes = bytes }) (put_at-beyond from values s.object.bytes (omega (arith, beyond, s.is_size)))))
 
 put_at-none : (xs : List ℕ) → put_at 0 [] xs ≡ xs
 put_at-none [] = refl

@@ -1,5 +1,5 @@
 -- Drawing in parts: what is taken and told in each part is taken and told in all.
-use Rattle.std.proofs.Common.{◌≡◌, ℕ, zero, suc, ◌<◌, ◌%◌, ℤ, List, [], ◌∷◌, ◌++◌, length, map, Option, Some, None, refl, ap, sym, ◌∙◌, arith, append_assoc, append-nil, length-append}
+use Rattle.std.proofs.Common.{◌≡◌, ℕ, suc, ◌%◌, ℤ, List, [], ◌∷◌, ◌++◌, length, map, Option, Some, None, refl, ap, sym, ◌∙◌, arith, append_assoc, append-nil, length-append}
 use Rattle.std.specs.Prelude.{Result, Ok, Err, IsErr, IfSome}
 use Rattle.std.proofs.lemmas.List.{map-append}
 use Rattle.dc_num.specs.declared.kind.NumKind.TheVariants.{S32}
@@ -7,13 +7,16 @@ use Rattle.dc_core.specs.Event.{Event, Draw, Create}
 use Rattle.dc_core.specs.Run.{Note, Did}
 use Rattle.dc_core.specs.Choices.{Drawn, Drew, Dry, Draws, ◌>>=◌, bind, give, tell, draw, draw_bytes, draw_value, after}
 use Rattle.dc_memory.specs.declared.object.ObjKind.{ObjKind}
-use Rattle.dc_memory.specs.declared.object.ObjKind.TheVariants.{Static, Stack}
+use Rattle.dc_memory.specs.declared.object.ObjKind.TheVariants.{Static, Heap, Stack}
 use Rattle.dc_memory.specs.declared.object.Object.{Object}
 use Rattle.dc_memory.specs.Objects.{Memory, holding}
 use Rattle.dc_core.specs.Objects.{dead}
-use Rattle.dc_core.specs.Entry.{static_objects, live_object, dead_object, outside_object, outside_objects, draw_arguments}
+use Rattle.dc_core.specs.Entry.{static_objects, dead_object, drawn_objects, draw_arguments}
 use Rattle.dc_choice.specs.Chosen.{Used, Takes, Counted}
 use Rattle.dc_world.specs.Told.{Supply, supply, IsTaken, Hearing, noted, happens, told}
+use Rattle.dc_world.specs.Sorts.{count_of, object_of}
+use Rattle.dc_world.specs.declared.sorts.Sorts.{Sorts}
+use Rattle.dc_world.specs.declared.sorts.Sorts.TheVariants.{Outside, New}
 use Rattle.dc_world.specs.Drawing.{HasDrawn, RanDry, happened, BrokeOff, IsDrawing, IsResumed, behind, next_object, with_objects}
 
 pub Used-none : (l : Option (List ℕ)) → Used l l []
@@ -269,35 +272,39 @@ drawn-dead number kind o s h h' e n =
     (resumed_told (dead_object number kind) (dead_object number kind) (give (dead kind)) (Create number) s s h h h' (resumed_none (dead_object number kind) s h) (λ choices. refl) n)
     (λ choices. ap (λ v. Drew v choices []) (sym e))
 
-pub outside-other : (number sort : ℕ) → 2 < sort → outside_object number sort ≡ live_object number Stack
-outside-other number zero h = absurd (omega arith)
-outside-other number (suc zero) h = absurd (omega arith)
-outside-other number (suc (suc zero)) h = absurd (omega arith)
-outside-other number (suc (suc (suc k))) h = refl
+pub first-sort : (sorts : Sorts) (number : ℕ) → object_of sorts number 0 ≡ dead_object number Heap
+first-sort Outside number = refl
+first-sort New number = refl
 
-after_object : (m : Memory) (o : Object) (n : ℕ) (choices : List ℕ)
-    → ((outside_objects (suc (suc (length m))) n >>= λ objects. give (o ∷ objects)) >>= λ objects. give (m ++ objects)) choices ≡ with_objects (m ++ o ∷ []) n choices
-after_object m o n choices =
+pub second-sort : (sorts : Sorts) (number : ℕ) → object_of sorts number 1 ≡ dead_object number Stack
+second-sort Outside number = refl
+second-sort New number = refl
+
+after_object : (sorts : Sorts) (m : Memory) (o : Object) (n : ℕ) (choices : List ℕ)
+    → ((drawn_objects (count_of sorts) (object_of sorts) (suc (suc (length m))) n >>= λ objects. give (o ∷ objects)) >>= λ objects. give (m ++ objects)) choices ≡ with_objects sorts (m ++ o ∷ []) n choices
+after_object sorts m o n choices =
+    let D = drawn_objects (count_of sorts) (object_of sorts) in
     let e : length (m ++ o ∷ []) ≡ suc (length m) = omega (arith, length-append m (o ∷ [])) in
-    bind-bind (outside_objects (suc (suc (length m))) n choices) (λ objects. give (o ∷ objects)) (λ objects. give (m ++ objects))
-    ∙ bind-same (outside_objects (suc (suc (length m))) n choices) _ _ (λ objects rest. ap (λ l. Drew l rest []) (sym (append_assoc m (o ∷ []) objects)))
-    ∙ ap (λ k. (outside_objects (suc k) n >>= λ objects. give ((m ++ o ∷ []) ++ objects)) choices) (sym e)
+    bind-bind (D (suc (suc (length m))) n choices) (λ objects. give (o ∷ objects)) (λ objects. give (m ++ objects))
+    ∙ bind-same (D (suc (suc (length m))) n choices) _ _ (λ objects rest. ap (λ l. Drew l rest []) (sym (append_assoc m (o ∷ []) objects)))
+    ∙ ap (λ k. (D (suc k) n >>= λ objects. give ((m ++ o ∷ []) ++ objects)) choices) (sym e)
 
-pub objects-more : (m : Memory) (number k n : ℕ) → number ≡ suc (length m) → k ≡ suc n → (choices : List ℕ) → with_objects m k choices ≡ (next_object number >>= λ o. with_objects (m ++ o ∷ []) n) choices
-objects-more m number k n i e choices =
-    let F = λ (sort : ℕ). outside_object (suc (length m)) sort in
-    let G = λ (o : Object). outside_objects (suc (suc (length m))) n >>= λ objects. give (o ∷ objects) in
+pub objects-more : (sorts : Sorts) (m : Memory) (number k n : ℕ) → number ≡ suc (length m) → k ≡ suc n → (choices : List ℕ)
+    → with_objects sorts m k choices ≡ (next_object sorts number >>= λ o. with_objects sorts (m ++ o ∷ []) n) choices
+objects-more sorts m number k n i e choices =
+    let F = λ (sort : ℕ). object_of sorts (suc (length m)) sort in
+    let G = λ (o : Object). drawn_objects (count_of sorts) (object_of sorts) (suc (suc (length m))) n >>= λ objects. give (o ∷ objects) in
     let H = λ (objects : Memory). give (m ++ objects) in
-    let K = λ (o : Object). with_objects (m ++ o ∷ []) n in
+    let K = λ (o : Object). with_objects sorts (m ++ o ∷ []) n in
     rw (i, e) (
-    bind-bind (draw 4 choices) (λ sort. F sort >>= G) H
-    ∙ bind-same (draw 4 choices) _ _
-    (λ sort rest. bind-bind (F sort rest) G H ∙ bind-same (F sort rest) (λ o. G o >>= H) K (λ o last. after_object m o n last))
-    ∙ sym (bind-bind (draw 4 choices) F K)
+    bind-bind (draw (count_of sorts) choices) (λ sort. F sort >>= G) H
+    ∙ bind-same (draw (count_of sorts) choices) _ _
+    (λ sort rest. bind-bind (F sort rest) G H ∙ bind-same (F sort rest) (λ o. G o >>= H) K (λ o last. after_object sorts m o n last))
+    ∙ sym (bind-bind (draw (count_of sorts) choices) F K)
     )
 
-pub objects-end : (m : Memory) (k : ℕ) → k ≡ 0 → (choices : List ℕ) → with_objects m k choices ≡ give m choices
-objects-end m k e choices = rw e (ap (λ l. Drew l choices []) (append-nil m))
+pub objects-end : (sorts : Sorts) (m : Memory) (k : ℕ) → k ≡ 0 → (choices : List ℕ) → with_objects sorts m k choices ≡ give m choices
+objects-end sorts m k e choices = rw e (ap (λ l. Drew l choices []) (append-nil m))
 
 -- Results ---------------------------------------------------------------------------------------------------------
 
@@ -313,5 +320,5 @@ bytes-start n m e choices = rw e (behind-none (draw_bytes n) choices)
 pub arguments-start : (n m : ℕ) → m ≡ n → (choices : List ℕ) → draw_arguments n choices ≡ behind [] (draw_arguments m) choices
 arguments-start n m e choices = rw e (behind-none (draw_arguments n) choices)
 
-pub objects-start : (m : Memory) (n k : ℕ) → k ≡ n → (choices : List ℕ) → with_objects m n choices ≡ with_objects m k choices
-objects-start m n k e choices = rw e refl
+pub objects-start : (sorts : Sorts) (m : Memory) (n k : ℕ) → k ≡ n → (choices : List ℕ) → with_objects sorts m n choices ≡ with_objects sorts m k choices
+objects-start sorts m n k e choices = rw e refl

@@ -5,8 +5,10 @@ use Rattle.dc_core.specs.Run.{Did}
 use Rattle.dc_memory.specs.declared.object.Object.{Object}
 use Rattle.dc_memory.specs.Objects.{Memory}
 use Rattle.dc_core.specs.Choices.{Drawn, Drew, Dry, Draws, ◌>>=◌, give, draw, after}
-use Rattle.dc_core.specs.Entry.{outside_object, outside_objects}
+use Rattle.dc_core.specs.Entry.{drawn_objects}
 use Rattle.dc_world.specs.Told.{Supply, IsTaken, Hearing, told}
+use Rattle.dc_world.specs.Sorts.{count_of, object_of}
+use Rattle.dc_world.specs.declared.sorts.Sorts.{Sorts}
 
 -- the value was drawn: the numbers taken give it, whatever follows them, and their events were told
 pub record HasDrawn {A : Type 0} (draws : Draws A) (value : A) (s s' : Supply) (h h' : Hearing) : Type 0 where
@@ -54,10 +56,11 @@ pub record IsResumed {A : Type 0} (whole rest_of_it : Draws A) (s s' : Supply) (
 abbrev pub behind : {A : Type 0} → List A → Draws (List A) → Draws (List A)
 behind front draws = draws >>= λ more. give (front ++ more)
 
--- the next outside object, of this number
-abbrev pub next_object : ℕ → Draws Object
-next_object number = draw 4 >>= λ sort. outside_object number sort
+-- the next object, of this number
+abbrev pub next_object : Sorts → ℕ → Draws Object
+next_object sorts number = draw (count_of sorts) >>= λ sort. object_of sorts number sort
 
--- that many outside objects behind those of a memory
-abbrev pub with_objects : Memory → ℕ → Draws Memory
-with_objects memory n = outside_objects (suc (length memory)) n >>= λ objects. give (memory ++ objects)
+-- that many objects behind those of a memory
+abbrev pub with_objects : Sorts → Memory → ℕ → Draws Memory
+with_objects sorts memory n =
+    drawn_objects (count_of sorts) (object_of sorts) (suc (length memory)) n >>= λ objects. give (memory ++ objects)

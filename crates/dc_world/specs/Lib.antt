@@ -1,6 +1,7 @@
 pub mod View
 pub mod Told
 pub mod Log
+pub mod Sorts
 pub mod Drawing
 pub mod Sets
 pub mod Report

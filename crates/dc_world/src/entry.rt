@@ -1,10 +1,11 @@
 // The objects that are drawn before anything of a program runs.
 ghost use Rattle.std.specs.Prelude.{◌≡◌, suc, length};
 ghost use Rattle.dc_core.specs.Event.{Create};
-ghost use Rattle.dc_core.specs.Entry.{static_objects as drawn_statics, live_object as drawn_live, outside_object as drawn_outside, with_outside as drawn_with_outside};
+ghost use Rattle.dc_core.specs.Entry.{static_objects as drawn_statics, live_object as drawn_live, with_outside as drawn_with_outside, with_new as drawn_with_new};
 ghost use Rattle.dc_core.specs.Objects.{dead};
 ghost use Rattle.dc_world.specs.Told.{supply, happens};
 ghost use Rattle.dc_world.specs.Log.{hearing};
+ghost use Rattle.dc_world.specs.Sorts.{object_of, with_sorts};
 ghost use Rattle.dc_world.specs.Drawing.{IsDrawing, next_object as drawn_next, with_objects};
 ghost use Rattle.dc_world.specs.View.{kind_view, object_view, objects_view};
 
@@ -12,6 +13,7 @@ use crate::draws::{draw, draw_bytes};
 use crate::fresh::{Fresh, Storage};
 use crate::log::Log;
 use crate::memory::add;
+use crate::sorts::Sorts;
 use dc_choice::{Chooser, Watch};
 use dc_memory::Store;
 use dc_text::Event;
@@ -70,8 +72,9 @@ fn live_object<C: Chooser, W: Watch>(
 }
 
 // Draws an object of this number, of the sort that was drawn for it.
-fn outside_object<C: Chooser, W: Watch>(
+fn sorted_object<C: Chooser, W: Watch>(
     alloc: Global,
+    sorts: Sorts,
     number: u64,
     sort: u64,
     chooser: &mut C,
@@ -79,7 +82,7 @@ fn outside_object<C: Chooser, W: Watch>(
     watch: &mut W,
     log: &mut Log,
 ) -> Result<Option<Fresh>, AllocError>
-    ensures { IsDrawing object_view (drawn_outside number sort) result
+    ensures { IsDrawing object_view (object_of sorts number sort) result
         (supply (C.left chooser.old) (C.given chooser.old) (C.dry chooser.old) used.old.items)
         (supply (C.left chooser.new) (C.given chooser.new) (C.dry chooser.new) used.new.items)
         (hearing (W.records watch.old) (W.parts watch.old) log.old)
@@ -88,8 +91,15 @@ fn outside_object<C: Chooser, W: Watch>(
     match sort {
         0 => Ok(Some(dead_object(number, Storage::Heap, watch, log))),
         1 => Ok(Some(dead_object(number, Storage::Stack, watch, log))),
-        2 => live_object(alloc, number, Storage::Heap, chooser, used, watch, log),
-        _ => live_object(alloc, number, Storage::Stack, chooser, used, watch, log),
+        _ => live_object(
+            alloc,
+            number,
+            sorts.live_storage(sort),
+            chooser,
+            used,
+            watch,
+            log,
+        ),
     }
 }
 
@@ -106,27 +116,29 @@ fn dead_object<W: Watch>(number: u64, storage: Storage, watch: &mut W, log: &mut
 // Draws an object behind the others: its sort, then what the sort asks for.
 fn next_object<C: Chooser, W: Watch>(
     alloc: Global,
+    sorts: Sorts,
     number: u64,
     chooser: &mut C,
     used: &mut Vec<u64>,
     watch: &mut W,
     log: &mut Log,
 ) -> Result<Option<Fresh>, AllocError>
-    ensures { IsDrawing object_view (drawn_next number) result
+    ensures { IsDrawing object_view (drawn_next sorts number) result
         (supply (C.left chooser.old) (C.given chooser.old) (C.dry chooser.old) used.old.items)
         (supply (C.left chooser.new) (C.given chooser.new) (C.dry chooser.new) used.new.items)
         (hearing (W.records watch.old) (W.parts watch.old) log.old)
         (hearing (W.records watch.new) (W.parts watch.new) log.new) }
 {
-    let Some(sort) = draw(4, chooser, used, watch, log)? else {
+    let Some(sort) = draw(sorts.count(), chooser, used, watch, log)? else {
         return Ok(None);
     };
-    outside_object(alloc, number, sort, chooser, used, watch, log)
+    sorted_object(alloc, sorts, number, sort, chooser, used, watch, log)
 }
 
 // Draws that many objects behind those of the memory.
-fn outside_objects<C: Chooser, W: Watch>(
+fn drawn_objects<C: Chooser, W: Watch>(
     alloc: Global,
+    sorts: Sorts,
     memory: &mut Store,
     count: u64,
     chooser: &mut C,
@@ -134,7 +146,7 @@ fn outside_objects<C: Chooser, W: Watch>(
     watch: &mut W,
     log: &mut Log,
 ) -> Result<Option<()>, AllocError>
-    ensures { IsDrawing (λ u. memory.new) (with_objects memory.old count) result
+    ensures { IsDrawing (λ u. memory.new) (with_objects sorts memory.old count) result
         (supply (C.left chooser.old) (C.given chooser.old) (C.dry chooser.old) used.old.items)
         (supply (C.left chooser.new) (C.given chooser.new) (C.dry chooser.new) used.new.items)
         (hearing (W.records watch.old) (W.parts watch.old) log.old)
@@ -142,7 +154,7 @@ fn outside_objects<C: Chooser, W: Watch>(
 {
     for _at in 0..count {
         let number = memory.count() + 1;
-        let Some(object) = next_object(alloc, number, chooser, used, watch, log)? else {
+        let Some(object) = next_object(alloc, sorts, number, chooser, used, watch, log)? else {
             return Ok(None);
         };
         add(memory, object)?;
@@ -150,7 +162,30 @@ fn outside_objects<C: Chooser, W: Watch>(
     Ok(Some(()))
 }
 
-/// Draws outside objects behind those of the memory, their count first.
+// Draws objects of these sorts behind those of the memory, their count first.
+fn with_drawn<C: Chooser, W: Watch>(
+    alloc: Global,
+    sorts: Sorts,
+    memory: &mut Store,
+    chooser: &mut C,
+    used: &mut Vec<u64>,
+    watch: &mut W,
+    log: &mut Log,
+) -> Result<Option<()>, AllocError>
+    ensures { IsDrawing (λ u. memory.new) (with_sorts sorts memory.old) result
+        (supply (C.left chooser.old) (C.given chooser.old) (C.dry chooser.old) used.old.items)
+        (supply (C.left chooser.new) (C.given chooser.new) (C.dry chooser.new) used.new.items)
+        (hearing (W.records watch.old) (W.parts watch.old) log.old)
+        (hearing (W.records watch.new) (W.parts watch.new) log.new) }
+{
+    let most = 65536_u64.saturating_sub(memory.count());
+    let Some(count) = draw(most as u128, chooser, used, watch, log)? else {
+        return Ok(None);
+    };
+    drawn_objects(alloc, sorts, memory, count, chooser, used, watch, log)
+}
+
+/// Draws outside objects behind those of the memory, their count first: dead or live ones of the heap or of a stack.
 #[tactic(auto, unfolding(dc_core::specs::Entry::with_outside))]
 pub fn with_outside<C: Chooser, W: Watch>(
     alloc: Global,
@@ -166,9 +201,25 @@ pub fn with_outside<C: Chooser, W: Watch>(
         (hearing (W.records watch.old) (W.parts watch.old) log.old)
         (hearing (W.records watch.new) (W.parts watch.new) log.new) }
 {
-    let most = 65536_u64.saturating_sub(memory.count());
-    let Some(count) = draw(most as u128, chooser, used, watch, log)? else {
-        return Ok(None);
-    };
-    outside_objects(alloc, memory, count, chooser, used, watch, log)
+    with_drawn(alloc, Sorts::Outside, memory, chooser, used, watch, log)
+}
+
+/// Draws new objects behind those of the memory, their count first: dead ones of the heap or of a stack, or live ones of
+/// the heap.
+#[tactic(auto, unfolding(dc_core::specs::Entry::with_new))]
+pub fn with_new<C: Chooser, W: Watch>(
+    alloc: Global,
+    memory: &mut Store,
+    chooser: &mut C,
+    used: &mut Vec<u64>,
+    watch: &mut W,
+    log: &mut Log,
+) -> Result<Option<()>, AllocError>
+    ensures { IsDrawing (λ u. memory.new) (drawn_with_new memory.old) result
+        (supply (C.left chooser.old) (C.given chooser.old) (C.dry chooser.old) used.old.items)
+        (supply (C.left chooser.new) (C.given chooser.new) (C.dry chooser.new) used.new.items)
+        (hearing (W.records watch.old) (W.parts watch.old) log.old)
+        (hearing (W.records watch.new) (W.parts watch.new) log.new) }
+{
+    with_drawn(alloc, Sorts::New, memory, chooser, used, watch, log)
 }

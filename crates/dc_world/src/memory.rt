@@ -93,9 +93,9 @@ pub fn let_die(memory: &mut Store, number: u64)
     }
 }
 
-// Writes bytes into the object of the number from its first byte on, as many as it has room for.
-fn rewrite(memory: &mut Store, number: u64, bytes: &[u8])
-    ensures { memory.new ≡ changed number (with_bytes 0 bytes.now) memory.old }
+/// Writes bytes into the object of the number from a byte of it on, as many as it has room for.
+pub fn rewrite(memory: &mut Store, number: u64, from: u64, bytes: &[u8])
+    ensures { memory.new ≡ changed number (with_bytes from bytes.now) memory.old }
 {
     if number > memory.count() {
         return;
@@ -103,9 +103,9 @@ fn rewrite(memory: &mut Store, number: u64, bytes: &[u8])
     let Some((_, live, size)) = memory.look(number) else {
         return;
     };
-    let count = bytes.len().min(size as usize);
-    if live {
-        memory.put(number * 281474976710656, &bytes[..count]);
+    if live && from <= size {
+        let count = bytes.len().min((size - from) as usize);
+        memory.put(number * 281474976710656 + from, &bytes[..count]);
     }
 }
 
@@ -115,7 +115,7 @@ fn rewrite_as(memory: &mut Store, number: u64, object: &Fresh)
 {
     match object {
         Fresh::Dead(_) => (),
-        Fresh::Live(_, bytes) => rewrite(memory, number, bytes.as_slice()),
+        Fresh::Live(_, bytes) => rewrite(memory, number, 0, bytes.as_slice()),
     }
 }
 

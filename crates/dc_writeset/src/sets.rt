@@ -1,5 +1,5 @@
 // Sets one within the other.
-ghost use Rattle.std.specs.Prelude.{◌≡◌, IsSome, OnErr, OnOk, slice_get};
+ghost use Rattle.std.specs.Prelude.{◌≡◌, IsSome, OnErr, OnOk, length, slice_get};
 ghost use Rattle.std.specs.Option.{option_copied, option_map};
 ghost use Rattle.dc_writeset.specs.Sets.{frees_of, innermost, is_free_allowed, is_freed_since, is_inside_below, is_write_allowed, no_sets, parts_of, popped, pushed, ranges_of, with_free, with_freed, with_range};
 
@@ -161,6 +161,26 @@ impl WriteSets {
         match self.set(0) {
             None => None,
             Some(set) => Some(set.mark),
+        }
+    }
+
+    /// How many ranges the innermost set has; 0 where there is no set. It takes no memory.
+    pub fn range_count(&self) -> usize
+        ensures { result ≡ length (ranges_of (innermost self.now.sets)) }
+    {
+        match self.set(0) {
+            None => 0,
+            Some(set) => set.ranges.len(),
+        }
+    }
+
+    /// How many objects the innermost set names to be freed; 0 where there is no set. It takes no memory.
+    pub fn free_count(&self) -> usize
+        ensures { result ≡ length (frees_of (innermost self.now.sets)) }
+    {
+        match self.set(0) {
+            None => 0,
+            Some(set) => set.frees.len(),
         }
     }
 

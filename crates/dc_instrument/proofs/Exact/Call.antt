@@ -3,19 +3,21 @@ use Rattle.std.proofs.Common.{◌≡◌, ℕ, zero, suc, ◌+◌, ◌-◌, ◌<�
 use Rattle.std.specs.Prelude.{◌⊎◌, slice_get, replicate, map, nat_lt, if◌then◌else◌}
 use Rattle.dc_core.specs.Event.{End, Return as CameBack}
 use Rattle.dc_core.specs.Event as end
-use Rattle.dc_memory.specs.Objects.{Memory}
 use Rattle.dc_core.specs.World.{left, kill_events}
 use Rattle.dc_core.specs.Program.{Function, Program}
 use Rattle.dc_core.specs.Contract.{WriteSet}
 use Rattle.dc_core.specs.Sound.{IsSound}
 use Rattle.dc_core.specs.Run.{State, Out, Normal, Returned, Ended, Cut, Note, Did, noted, contract_mode, run, with_parameters, finished, leaving, without_locals, call}
 use Rattle.dc_goto.specs.Program.{Instr, Call, Return, Trap, GotoProgram}
-use Rattle.dc_goto.specs.Machine.{Registers, Now, Enters, given, term_values, with_value, register_value, with_result, Machine, Going, Stopped, noted as noted_run, proceed, entered, entered_body, body_of, function_number, first_registers, caller, depth_limit, left_body, steps}
+use Rattle.dc_goto.specs.Values.{joined}
+use Rattle.dc_goto.specs.Acts.{Then, all_given, defined}
+use Rattle.dc_goto.specs.Machine.{Registers, Now, Enters, with_result, Machine, Going, Stopped, noted as noted_run, proceed, entered, entered_body, body_of, function_number, first_registers, caller, depth_limit, left_body, steps}
 use Rattle.dc_goto.proofs.Notes.{fails, fails-append}
 use Rattle.dc_goto.proofs.Line.{HasAt, has_front, has_back, has_all, line_next, line_ends}
 use Rattle.dc_goto.proofs.Steps.{one, steps_join}
 use Rattle.dc_goto.proofs.Registers.{get-back, get-front, get-there, get-map, length-map, pointwise-refl}
 use Rattle.dc_instrument.specs.Lowering.{statements_code, parameters_code, last_instr, function_body, argument_terms, result_register, goto_of}
+use Rattle.dc_instrument.proofs.Exact.Sets.{plain_sets}
 use Rattle.dc_instrument.proofs.Exact.Values.{Held, AllHeld}
 use Rattle.dc_instrument.proofs.Exact.Parameters.{pointer_register, body_registers, AllSmall, Made, Full, parameters_follow}
 use Rattle.dc_instrument.proofs.Exact.Follow.{Comes, Stops, Waits, Leaves, Spot, now, in_body, ResultFits, Follows, after}
@@ -101,7 +103,7 @@ length-body_registers arguments made n =
 
 -- the body from its first instruction on
 body_finishes : (p : Program) (g : GotoProgram) (c : Spot) (set : WriteSet) (outer : List WriteSet) (arguments : List ℤ) (st : State)
-    → IsSound p → c.name ≡ p.function.name → c.code ≡ (function_body p.function).code → c.sets ≡ set ∷ outer
+    → IsSound p → c.name ≡ p.function.name → c.code ≡ (function_body p.function).code → c.sets ≡ plain_sets (set ∷ outer)
     → length arguments ≡ p.function.params
     → Finishes g p.function.gives_int c (in_body c 0 (body_registers arguments [] (length arguments + length p.function.body)) st.world) st.left
     (finished p.function (with_parameters contract_mode arguments [] st (λ places t. run contract_mode c.name set places p.function.body t)))
@@ -178,13 +180,15 @@ Calls g gives_int m r n (Returned notes value st) =
 Calls g gives_int m r n (Ended notes end w) = Stops g m (fails notes) end w
 Calls g gives_int m r n (Cut notes w) = Waits g m (fails notes) n
 
--- the arguments' registers
-arguments_values : (memory : Memory) (done rest : List ℤ) (regs more : Registers) (i : ℕ) → i ≡ length done → regs ≡ map Some (done ++ rest) ++ more → term_values regs memory (argument_terms i (length rest)) ≡ Some rest
-arguments_values memory done [] regs more i ei er = refl
-arguments_values memory done (v ∷ rest) regs more i ei er =
-    let here : slice_get regs i ≡ Some (Some v) = ap (λ l. slice_get l i) er ∙ argument done more i ei in
-    ap (λ o. with_value (register_value o) (term_values regs memory (argument_terms (suc i) (length rest)))) here
-    ∙ ap (with_value (Some v)) (arguments_values memory (done ++ v ∷ []) rest regs more (suc i) (omega (arith, length-append done (v ∷ []))) (er ∙ ap (λ l. map Some l ++ more) (sym (append_assoc done (v ∷ []) rest))))
+-- the arguments stand in their registers
+arguments_given : (name : List ℕ) (s : Now) (done rest : List ℤ) (more : Registers) (i : ℕ) (go : List ℤ → Now → Then)
+    → i ≡ length done → s.regs ≡ map Some (done ++ rest) ++ more → all_given name s (argument_terms i (length rest)) go ≡ go rest s
+arguments_given name s done [] more i go ei er = refl
+arguments_given name s done (v ∷ rest) more i go ei er =
+    let here : slice_get s.regs i ≡ Some (Some v) = ap (λ l. slice_get l i) er ∙ argument done more i ei in
+    ap (λ o. defined name (joined o) s (λ v. all_given name s (argument_terms (suc i) (length rest)) (λ values u. go (v ∷ values) u))) here
+    ∙ arguments_given name s (done ++ v ∷ []) rest more (suc i) (λ values u. go (v ∷ values) u)
+    (omega (arith, length-append done (v ∷ []))) (er ∙ ap (λ l. map Some l ++ more) (sym (append_assoc done (v ∷ []) rest)))
   where
     argument : (done : List ℤ) (more : Registers) (i : ℕ) → i ≡ length done → slice_get (map Some (done ++ v ∷ rest) ++ more) i ≡ Some (Some v)
     argument [] more zero e = refl
@@ -203,7 +207,7 @@ shallow = refl
 
 -- a call of the function from the start
 pub call_follows : (p : Program) (m : Machine) (set : WriteSet) (arguments : List ℤ) (more : Registers) (st : State)
-    → IsSound p → m.frames ≡ [] → m.now.sets ≡ set ∷ [] → m.now.world ≡ st.world
+    → IsSound p → m.frames ≡ [] → m.now.sets ≡ plain_sets (set ∷ []) → m.now.world ≡ st.world
     → slice_get m.code m.place ≡ Some (Call (result_register p.function) p.function.name (argument_terms 0 p.function.params))
     → length arguments ≡ p.function.params → m.now.regs ≡ map Some arguments ++ more
     → Calls (goto_of p) p.function.gives_int m (result_register p.function) st.left (call contract_mode p.function set arguments st)
@@ -221,7 +225,7 @@ call_follows p m set arguments more st sound eframes esets eworld has elen eregs
     r = result_register f
 
     c : Spot
-    c = record { name = f.name; code = (function_body f).code; frames = caller m r ∷ m.frames; sets = m.now.sets; seen = m.now.seen }
+    c = record { name = f.name; code = (function_body f).code; frames = caller m m.now r ∷ m.frames; sets = m.now.sets; seen = m.now.seen }
 
     inner : Machine
     inner = in_body c 0 (body_registers arguments [] (length arguments + length f.body)) (without_locals st).world
@@ -232,19 +236,19 @@ call_follows p m set arguments more st sound eframes esets eworld has elen eregs
     numbered : function_number 1 g.functions f.name ≡ 1
     numbered = ap (λ b. if b then 1 else 2) (pointwise-refl f.name)
 
-    values : term_values m.now.regs m.now.world.memory (argument_terms 0 f.params) ≡ Some arguments
-    values =
-        ap (λ n. term_values m.now.regs m.now.world.memory (argument_terms 0 n)) (sym elen)
-        ∙ arguments_values m.now.world.memory [] arguments m.now.regs more 0 refl eregs
+    values : (go : List ℤ → Now → Then) → all_given m.name m.now (argument_terms 0 f.params) go ≡ go arguments m.now
+    values go =
+        ap (λ n. all_given m.name m.now (argument_terms 0 n) go) (sym elen)
+        ∙ arguments_given m.name m.now [] arguments more 0 go refl eregs
 
     enters : steps g 1 m ≡ Going (Did (end.Call 1) ∷ []) inner
     enters =
         one g m (Call r f.name (argument_terms 0 f.params)) (Going (Did (end.Call 1) ∷ []) inner) has
-        (ap (λ o. proceed g m (given m.name m.now.world o (λ vs. Enters r f.name vs))) values
-        ∙ ap (λ l. entered g m r f.name arguments (nat_lt (length l) depth_limit)) eframes
-        ∙ ap (entered g m r f.name arguments) shallow
-        ∙ ap (λ n. noted_run (Did (end.Call n) ∷ []) (entered_body m r f.name arguments (body_of g.bodies f.name))) numbered
-        ∙ ap (λ o. noted_run (Did (end.Call 1) ∷ []) (entered_body m r f.name arguments o)) found
+        (ap (proceed g m) (values (λ vs t. Enters r f.name vs t))
+        ∙ ap (λ l. entered g m m.now r f.name arguments (nat_lt (length l) depth_limit)) eframes
+        ∙ ap (entered g m m.now r f.name arguments) shallow
+        ∙ ap (λ n. noted_run (Did (end.Call n) ∷ []) (entered_body m m.now r f.name arguments (body_of g.bodies f.name))) numbered
+        ∙ ap (λ o. noted_run (Did (end.Call 1) ∷ []) (entered_body m m.now r f.name arguments o)) found
         ∙ ap (λ l. Going (Did (end.Call 1) ∷ []) (in_body c 0 l (record m.now.world { locals = [] }))) (first_registers_are p arguments elen)
         ∙ ap (λ w. Going (Did (end.Call 1) ∷ []) (in_body c 0 (body_registers arguments [] (length arguments + length f.body)) (record w { locals = [] }))) eworld)
 

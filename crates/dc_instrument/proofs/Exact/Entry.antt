@@ -11,23 +11,28 @@ use Rattle.dc_core.specs.Event.{Event, End}
 use Rattle.dc_core.specs.Event as end
 use Rattle.dc_core.specs.Choices.{Drawn, Drew, Dry, after, bind, draw_value, give}
 use Rattle.dc_memory.specs.Objects.{Memory}
+use Rattle.dc_memory.specs.Places.{start_of}
 use Rattle.dc_core.specs.Entry.{draw_arguments}
+use Rattle.dc_core.specs.Program as program
 use Rattle.dc_core.specs.Program.{Expr, Program}
-use Rattle.dc_core.specs.Value.{Scope, Clause, value, place}
+use Rattle.dc_core.specs.Term.{Constant}
+use Rattle.dc_core.specs.Value.{Scope, Clause, value, place, variable_place}
 use Rattle.dc_core.specs.Contract.{holds, all_hold, WriteSet, with_ranges, denoted, ranges_of}
 use Rattle.dc_core.specs.Sound.{Stands, IsTarget}
 use Rattle.dc_core.specs.Run.{Note, Did, checked, tested}
 use Rattle.dc_core.proofs.Numbers.{HasInt, IsValue-converted}
-use Rattle.dc_goto.specs.Program.{GotoProgram}
-use Rattle.dc_goto.specs.Machine.{Registers, Now, Next, Ends, drawn, required as required_then, ranged, natural_value, register_value, with_register}
+use Rattle.dc_goto.specs.Program.{Range, GotoProgram}
+use Rattle.dc_goto.specs.Values.{Registers, joined}
+use Rattle.dc_goto.specs.Acts.{Now, Next, Ends, act, drawn, required as required_then, with_register}
 use Rattle.dc_goto.proofs.Notes.{fails}
 use Rattle.dc_goto.proofs.Line.{line, before, then_next, before-nil}
 use Rattle.dc_goto.proofs.Registers.{get-front, get-map, length-map, map-append, set-here, get-here}
-use Rattle.dc_goto.proofs.Values.{as_natural-pos}
-use Rattle.dc_instrument.specs.Lowering.{place_term, int_len, draws_code, require_code, ranges_code, checks_code}
+use Rattle.dc_instrument.specs.Lowering.{term_of, place_term, int_len, draws_code, require_code, ranges_code, checks_code}
 use Rattle.dc_instrument.specs.declared.places.Places.{Places}
 use Rattle.dc_instrument.specs.declared.places.Places.TheVariants as places
-use Rattle.dc_instrument.proofs.Exact.Values.{Fits, value_same, target_same}
+use Rattle.dc_instrument.proofs.Exact.Plain.{check_acts, require_acts}
+use Rattle.dc_instrument.proofs.Exact.Sets.{AreBare, plain_sets, ranged_same}
+use Rattle.dc_instrument.proofs.Exact.Values.{Fits, value_plain, value_same, variable_pointer}
 use Rattle.dc_instrument.proofs.Exact.Parameters.{AllInts}
 
 -- Clauses -----------------------------------------------------------------------------------------------------------
@@ -53,7 +58,7 @@ clause_fits p allowed arguments result tail regs memory er ints el held =
       parameters = λ k lt.
           let m = length-map Some arguments in
           record {
-            same = sym (ap (λ l. register_value (slice_get l k)) er ∙ ap register_value (get-front (map Some arguments) tail k (omega arith) ∙ get-map Some arguments k) ∙ read (slice_get arguments k));
+            same = sym (ap (λ l. joined (slice_get l k)) er ∙ ap joined (get-front (map Some arguments) tail k (omega arith) ∙ get-map Some arguments k) ∙ read (slice_get arguments k));
             int = int_at arguments k ints;
           };
       result_is = λ e.
@@ -62,14 +67,14 @@ clause_fits p allowed arguments result tail regs memory er ints el held =
           record {
             same =
                 h.known
-                ∙ sym (ap (λ l. register_value (slice_get l p.function.params)) er
-                ∙ ap (λ t. register_value (slice_get (map Some arguments ++ t) p.function.params)) h.register
-                ∙ ap register_value (get-here (map Some arguments) (Some h.number) [] p.function.params (m ∙ el)));
+                ∙ sym (ap (λ l. joined (slice_get l p.function.params)) er
+                ∙ ap (λ t. joined (slice_get (map Some arguments ++ t) p.function.params)) h.register
+                ∙ ap joined (get-here (map Some arguments) (Some h.number) [] p.function.params (m ∙ el)));
             int = subst HasInt (sym h.known) h.int;
           };
     }
   where
-    read : (o : Option ℤ) → register_value (option_map Some o) ≡ o
+    read : (o : Option ℤ) → joined (option_map Some o) ≡ o
     read None = refl
     read (Some v) = refl
 
@@ -80,7 +85,7 @@ pub requires_line : (p : Program) (g : GotoProgram) (name : List ℕ) (scope : S
 requires_line p g name scope at [] s few fits all = refl
 requires_line p g name scope at (e ∷ es) s few fits all =
     let v = value_same p false scope at s.regs s.world.memory e few fits (All-head (Stands p false) e es all) in
-    ap (λ o. then_next (required_then (holds o) s) (line g name (require_code at es))) (sym v.same)
+    ap (λ t. then_next t (line g name (require_code at es))) (require_acts g name s (term_of at e) (value_plain at e) ∙ ap (λ o. required_then (holds o) s) (sym v.same))
     ∙ by (holds (value scope s.world.memory e)) (requires_line p g name scope at es s few fits (All-tail (Stands p false) e es all))
   where
     by : (b : Bool) → line g name (require_code at es) s ≡ required_then (all_hold scope s.world.memory es) s
@@ -95,28 +100,38 @@ pub checks_line : (p : Program) (allowed : Bool) (g : GotoProgram) (name functio
 checks_line p allowed g name function scope at k [] s few fits all = refl
 checks_line p allowed g name function scope at k (e ∷ es) s few fits all =
     let v = value_same p allowed scope at s.regs s.world.memory e few fits (All-head (Stands p allowed) e es all) in
-    ap (λ o. before (checked (postcondition_name function k) (holds o)) (line g name (checks_code function at (suc k) es) s)) (sym v.same)
+    ap (λ t. then_next t (line g name (checks_code function at (suc k) es)))
+    (check_acts g name s (postcondition_name function k) (term_of at e) (value_plain at e) ∙ ap (λ o. Next (checked (postcondition_name function k) (holds o)) s) (sym v.same))
     ∙ ap (before (checked (postcondition_name function k) (holds (value scope s.world.memory e)))) (checks_line p allowed g name function scope at (suc k) es s few fits (All-tail (Stands p allowed) e es all))
+
+-- the range of a target is added to the set
+range_act : (p : Program) (g : GotoProgram) (name : List ℕ) (scope : Scope) (at : Places) (k : ℕ) (target : Expr) (set : WriteSet) (outer : List WriteSet) (s : Now)
+    → length p.statics ≤ 32766 → IsTarget p target → AreBare s.world.memory → s.sets ≡ plain_sets (set ∷ outer)
+    → act g name (Range k (Constant S32 (pos 1)) (place_term at target) int_len) s
+    ≡ Next [] (record s { sets = plain_sets (with_ranges (denoted k s.world.memory true (place scope target) (Some 4)) set ∷ outer) })
+range_act p g name scope at k (program.Literal z) set outer s few is bare e = absurd is
+range_act p g name scope at k (program.Variable j) set outer s few is bare e =
+    ap (λ sets. Next [] (record s { sets = sets }))
+    (ranged_same set outer s k (pos (start_of (suc (suc j)))) (variable_place j) e (variable_pointer (length p.statics) j few is) bare)
+range_act p g name scope at k (program.Parameter j) set outer s few is bare e = absurd is
+range_act p g name scope at k program.ReturnValue set outer s few is bare e = absurd is
+range_act p g name scope at k (program.Binary op a b) set outer s few is bare e = absurd is
 
 -- the ranges of the targets are added to the set
 pub ranges_line : (p : Program) (g : GotoProgram) (name : List ℕ) (scope : Scope) (at : Places) (k : ℕ) (targets : List Expr) (set : WriteSet) (outer : List WriteSet) (s : Now)
-    → length p.statics ≤ 32766 → All (IsTarget p) targets → s.sets ≡ set ∷ outer
-    → line g name (ranges_code at k targets) s ≡ Next [] (record s { sets = with_ranges (ranges_of k scope s.world.memory targets) set ∷ outer })
-ranges_line p g name scope at k [] set outer s few all e =
-    ap (λ l. Next [] (record s { sets = l })) (e ∙ ap (λ rs. record set { ranges = rs } ∷ outer) (sym (append-nil set.ranges)))
-ranges_line p g name scope at k (target ∷ targets) set outer s few all e =
+    → length p.statics ≤ 32766 → All (IsTarget p) targets → AreBare s.world.memory → s.sets ≡ plain_sets (set ∷ outer)
+    → line g name (ranges_code at k targets) s ≡ Next [] (record s { sets = plain_sets (with_ranges (ranges_of k scope s.world.memory targets) set ∷ outer) })
+ranges_line p g name scope at k [] set outer s few all bare e =
+    ap (λ sets. Next [] (record s { sets = sets })) (e ∙ ap (λ rs. plain_sets (record set { ranges = rs } ∷ outer)) (sym (append-nil set.ranges)))
+ranges_line p g name scope at k (target ∷ targets) set outer s few all bare e =
     let memory = s.world.memory in
-    let t = target_same p scope at s.regs memory target few (All-head (IsTarget p) target targets all) in
     let here = denoted k memory true (place scope target) (Some 4) in
     let more = with_ranges here set in
-    let added : ranged s k true (natural_value s.regs memory (place_term at target)) (natural_value s.regs memory int_len) s.sets ≡ more ∷ outer =
-    ap (λ l. ranged s k true (natural_value s.regs memory (place_term at target)) (natural_value s.regs memory int_len) l) e
-    ∙ ap (λ o. with_ranges (denoted k memory true o (natural_value s.regs memory int_len)) set ∷ outer) t
-    ∙ ap (λ n. with_ranges (denoted k memory true (place scope target) (Some n)) set ∷ outer) (as_natural-pos 4 (omega arith)) in
-    before-nil (line g name (ranges_code at (suc k) targets) (record s { sets = ranged s k true (natural_value s.regs memory (place_term at target)) (natural_value s.regs memory int_len) s.sets }))
-    ∙ ap (λ l. line g name (ranges_code at (suc k) targets) (record s { sets = l })) added
-    ∙ ranges_line p g name scope at (suc k) targets more outer (record s { sets = more ∷ outer }) few (All-tail (IsTarget p) target targets all) refl
-    ∙ ap (λ rs. Next [] (record s { sets = record set { ranges = rs } ∷ outer })) (append_assoc set.ranges here (ranges_of (suc k) scope memory targets))
+    let with_more : Now = record s { sets = plain_sets (more ∷ outer) } in
+    ap (λ t. then_next t (line g name (ranges_code at (suc k) targets))) (range_act p g name scope at k target set outer s few (All-head (IsTarget p) target targets all) bare e)
+    ∙ before-nil (line g name (ranges_code at (suc k) targets) with_more)
+    ∙ ranges_line p g name scope at (suc k) targets more outer with_more few (All-tail (IsTarget p) target targets all) bare refl
+    ∙ ap (λ rs. Next [] (record s { sets = plain_sets (record set { ranges = rs } ∷ outer) })) (append_assoc set.ranges here (ranges_of (suc k) scope memory targets))
 
 -- The draws -----------------------------------------------------------------------------------------------------------
 
@@ -162,7 +177,7 @@ draws_follow g name i zero done r choices s ei ec er =
 draws_follow g name i (suc n) done r [] s ei ec er =
     record {
       notes = [];
-      by = ap (λ cs. then_next (drawn (draw_value S32 cs) s (λ v t. with_register i v t)) (line g name (draws_code (suc i) n))) ec;
+      by = ap (λ cs. then_next (drawn (draw_value S32 cs) s (λ v t. Next [] (with_register i (Some v) t))) (line g name (draws_code (suc i) n))) ec;
       same = refl;
     }
 draws_follow g name i (suc n) done r (number ∷ choices) s ei ec er =
@@ -180,7 +195,7 @@ draws_follow g name i (suc n) done r (number ∷ choices) s ei ec er =
     stepped : line g name (draws_code i (suc n)) s ≡ before told (line g name (draws_code (suc i) n) s1)
     stepped =
         let room : suc n + r ≡ suc (n + r) = omega arith in
-        ap (λ cs. then_next (drawn (draw_value S32 cs) s (λ v t. with_register i v t)) (line g name (draws_code (suc i) n))) ec
+        ap (λ cs. then_next (drawn (draw_value S32 cs) s (λ v t. Next [] (with_register i (Some v) t))) (line g name (draws_code (suc i) n))) ec
         ∙ ap (λ l. before told (line g name (draws_code (suc i) n) (record s { regs = l; world = record s.world { choices = choices } })))
         (ap (λ l. slice_set l i (Some v)) (er ∙ ap (λ k. map Some done ++ replicate k (Some (pos 0))) room) ∙ draws_registers done v (n + r) i ei)
 

@@ -4,8 +4,8 @@ use Rattle.dc_num.specs.declared.kind.NumKind.TheVariants.{S32}
 use Rattle.dc_num.specs.Kinds.{IsValue}
 use Rattle.dc_core.specs.Event.{End}
 use Rattle.dc_core.specs.World.{World}
-use Rattle.dc_core.specs.Contract.{WriteSet}
 use Rattle.dc_core.specs.Run.{Out, Normal, Returned, Ended, Cut, Note, noted}
+use Rattle.dc_writeset.specs.Sets.{PlainSets}
 use Rattle.dc_goto.specs.Program.{Instr, GotoProgram}
 use Rattle.dc_goto.specs.Machine.{Registers, Now, Frame, Machine, Going, Stopped, left_body, steps, noted as noted_run}
 use Rattle.dc_goto.proofs.Notes.{fails, fails-append}
@@ -40,7 +40,7 @@ pub record Spot : Type 0 where
   pub name : List ℕ
   pub code : List Instr
   pub frames : List Frame
-  pub sets : List WriteSet
+  pub sets : PlainSets
   pub seen : List ℕ
 
 abbrev pub now : Spot → Registers → World → Now

@@ -15,13 +15,16 @@ use Rattle.dc_core.specs.World.{World, is_full, next_object, with_local}
 use Rattle.dc_core.specs.Run.{State, Out, Ended, Note, Did, noted, unless, contract_mode, with_parameters, with_parameter}
 use Rattle.dc_core.proofs.Objects.{start_of-small, store-new}
 use Rattle.dc_core.proofs.Outs.{noted-nil, noted-noted}
-use Rattle.dc_goto.specs.Program.{Instr, LocalZero, Init, GotoProgram}
+use Rattle.dc_goto.specs.Program.{Instr, Local, Init, GotoProgram}
+use Rattle.dc_goto.specs.declared.operands.Bytes.TheVariants.{Zero}
 use Rattle.dc_core.specs.Term.{Register}
-use Rattle.dc_goto.specs.Machine.{Registers, Now, Next, Ends, given, act, local_created, register_value, as_natural, with_memory}
+use Rattle.dc_goto.specs.Values.{Registers, as_pointer, joined}
+use Rattle.dc_goto.specs.Acts.{Now, Then, Next, Ends, act, defined, with_memory}
 use Rattle.dc_goto.proofs.Line.{line, before, then_next, before-nil}
 use Rattle.dc_goto.proofs.Registers.{get-here, get-back, set-here, length-map, map-append}
-use Rattle.dc_goto.proofs.Values.{as_natural-pos}
+use Rattle.dc_goto.proofs.Values.{as_pointer-pos}
 use Rattle.dc_instrument.specs.Lowering.{parameters_code}
+use Rattle.dc_instrument.proofs.Exact.Plain.{init_acts, local_created, local_acts}
 
 -- a register that holds a pointer
 abbrev pub pointer_register : ℕ → Option ℤ
@@ -111,30 +114,29 @@ one_parameter : (p : GotoProgram) (name : List ℕ) (first i : ℕ) (v : ℤ) (c
     → slice_set s.regs (first + i) (Some (pos (start_of (next_object w)))) ≡ regs
     → slice_get regs (first + i) ≡ Some (Some (pos (start_of (next_object w))))
     → slice_get regs i ≡ Some (Some v)
-    → line p name (LocalZero (first + i) 4 ∷ Init S32 (Register (first + i)) (Register i) ∷ code) s
+    → line p name (Local (first + i) 4 Zero ∷ Init S32 (Register (first + i)) (Register i) ∷ code) s
     ≡ before (Did (Create (next_object w)) ∷ []) (line p name code (record s { regs = regs; world = with_local (encoded mem.S32 v) w }))
 one_parameter p name first i v code regs w s free ew er pointer argument =
     let q = start_of (next_object w) in
     let zeros : World = with_local (replicate 4 0) w in
     let s1 : Now = record s { regs = regs; world = zeros } in
-    let enter : line p name (LocalZero (first + i) 4 ∷ Init S32 (Register (first + i)) (Register i) ∷ code) s ≡ before (Did (Create (next_object w)) ∷ []) (line p name (Init S32 (Register (first + i)) (Register i) ∷ code) s1) =
+    let enter : line p name (Local (first + i) 4 Zero ∷ Init S32 (Register (first + i)) (Register i) ∷ code) s ≡ before (Did (Create (next_object w)) ∷ []) (line p name (Init S32 (Register (first + i)) (Register i) ∷ code) s1) =
     ap (λ t. then_next t (line p name (Init S32 (Register (first + i)) (Register i) ∷ code)))
-    (ap (λ x. local_created (is_full x) (first + i) 4 (record s { world = x })) ew
-    ∙ ap (λ b. local_created b (first + i) 4 (record s { world = w })) free
+    (local_acts p name s false (first + i) 4 (ap is_full ew ∙ free)
+    ∙ ap (λ x. local_created p name (record s { world = x }) false (first + i) 4) ew
     ∙ ap (λ l. Next (Did (Create (next_object w)) ∷ []) (record s { regs = l; world = zeros })) er) in
     let store_it : store mem.S32 q v zeros.memory ≡ Some (with_local (encoded mem.S32 v) w).memory = store-new w.memory v in
-    let as_q : as_natural (pos q) ≡ q = as_natural-pos q (start_of-small (next_object w) (room_left w free)) in
+    let as_q : as_pointer (pos q) ≡ q = as_pointer-pos q (start_of-small (next_object w) (room_left w free)) in
+    let writes : ℕ → Option ℤ → Then = λ pointer o. defined name o s1 (λ x. defined name (store mem.S32 pointer x zeros.memory) s1 (λ memory. Next [] (with_memory memory s1))) in
     let init : act p name (Init S32 (Register (first + i)) (Register i)) s1 ≡ Next [] (record s { regs = regs; world = with_local (encoded mem.S32 v) w }) =
-    ap (λ o. given name zeros (natural o) (λ pointer. given name zeros (register_value (slice_get regs i)) (λ x. given name zeros (store mem.S32 pointer x zeros.memory) (λ memory. Next [] (with_memory memory s1))))) pointer
-    ∙ ap (λ n. given name zeros (register_value (slice_get regs i)) (λ x. given name zeros (store mem.S32 n x zeros.memory) (λ memory. Next [] (with_memory memory s1)))) as_q
-    ∙ ap (λ o. given name zeros (register_value o) (λ x. given name zeros (store mem.S32 q x zeros.memory) (λ memory. Next [] (with_memory memory s1)))) argument
-    ∙ ap (λ o. given name zeros o (λ memory. Next [] (with_memory memory s1))) store_it in
+    init_acts p name s1 (Register (first + i)) (Register i) tt tt
+    ∙ ap (λ o. defined name (option_map as_pointer (joined o)) s1 (λ pointer. writes pointer (joined (slice_get regs i)))) pointer
+    ∙ ap (λ n. writes n (joined (slice_get regs i))) as_q
+    ∙ ap (λ o. writes q (joined o)) argument
+    ∙ ap (λ o. defined name o s1 (λ memory. Next [] (with_memory memory s1))) store_it in
     enter
     ∙ ap (before (Did (Create (next_object w)) ∷ []))
     (ap (λ t. then_next t (line p name code)) init ∙ before-nil (line p name code (record s { regs = regs; world = with_local (encoded mem.S32 v) w })))
-  where
-    natural : Option (Option ℤ) → Option ℕ
-    natural o = option_map as_natural (register_value o)
 
 -- arguments become objects on both sides
 pub parameters_follow : (p : GotoProgram) (name : List ℕ) (arguments : List ℤ) (first i : ℕ) (done rest : List ℤ) (places : List ℕ) (r : ℕ) (st : State) (s : Now)
@@ -233,6 +235,6 @@ parameters_follow p name arguments first i done (v ∷ rest) places r st s ea ef
           source = λ go. begun true full go;
           target =
               ap (λ t. then_next t (line p name (Init S32 (Register (first + i)) (Register i) ∷ code)))
-              (ap (λ x. local_created (is_full x) (first + i) 4 (record s { world = x })) ew ∙ ap (λ b. local_created b (first + i) 4 (record s { world = w })) full);
+              (local_acts p name s true (first + i) 4 (ap is_full ew ∙ full) ∙ ap (λ x. Ends [] end.ObjectLimit x) ew);
         })
     by false free again = goes free (again free)

@@ -15,15 +15,18 @@ use Rattle.dc_core.specs.Value.{Clause}
 use Rattle.dc_core.specs.Contract.{all_hold, WriteSet, new_set, set_of}
 use Rattle.dc_core.specs.Sound.{IsSound}
 use Rattle.dc_core.specs.Run.{State, Note, Did, Entered, Enters, Stops, required, with_arguments, with_entry, entered, with_choices, with_memory}
+use Rattle.dc_writeset.specs.Sets.{no_sets}
 use Rattle.dc_goto.specs.Program.{Instr, Statics, OutsideObjects, Push, Pop, Return, GotoProgram}
-use Rattle.dc_goto.specs.Machine.{Registers, Now, Next, drawn, required as required_then, with_memory as with_now_memory, with_statics, Machine, Stopped, steps, first_memory}
+use Rattle.dc_goto.specs.Machine.{Registers, Now, Next, Machine, Stopped, steps, first_memory}
+use Rattle.dc_goto.specs.Acts.{drawn, required as required_then, with_memory as with_now_memory, with_statics}
 use Rattle.dc_goto.proofs.Notes.{fails, fails-append, fails-did}
 use Rattle.dc_goto.proofs.Line.{HasAt, has_front, has_back, line, line_next, line_ends, before, then_next, before-nil, at}
 use Rattle.dc_goto.proofs.Steps.{steps_join}
 use Rattle.dc_instrument.specs.Lowering.{int_static, draws_code, group_code, require_code, ranges_code, checks_code, call_code, start_code, start_regs, result_value, clauses_of, goto_of}
+use Rattle.dc_instrument.proofs.Exact.Sets.{AreBare, plain_sets}
 use Rattle.dc_instrument.proofs.Exact.Values.{Fits}
 use Rattle.dc_instrument.proofs.Exact.Parameters.{AllInts}
-use Rattle.dc_instrument.proofs.Exact.Variables.{DrewStatics, drawn-statics, rewritten-statics}
+use Rattle.dc_instrument.proofs.Exact.Variables.{DrewStatics, drawn-statics, drawn-bare, rewritten-statics}
 use Rattle.dc_instrument.proofs.Exact.Follow.{Comes}
 use Rattle.dc_instrument.proofs.Exact.Entry.{clause_fits, requires_line, ranges_line, DrawsFollow, draws_follow}
 
@@ -66,7 +69,7 @@ spare f = replicate (if f.gives_int then 1 else 0) (Some (pos 0))
 
 -- the run comes to the call
 pub record ComesToCall (g : GotoProgram) (f : Function) (m : Machine) (place : ℕ) (arguments : List ℤ) (set : WriteSet) (t : State) (n : ℕ) : Type 0 where
-  pub comes : Comes g m [] (in_start f place (record { regs = map Some arguments ++ spare f; sets = set ∷ []; seen = []; world = t.world }))
+  pub comes : Comes g m [] (in_start f place (record { regs = map Some arguments ++ spare f; sets = plain_sets (set ∷ []); seen = []; world = t.world }))
   pub ints : AllInts arguments
   pub count : length arguments ≡ f.params
   pub left : t.left ≡ n
@@ -77,7 +80,7 @@ EntryFollows g f m place n (Stops events how w) = EndsBefore g m how w.choices
 
 entry_after : (g : GotoProgram) (f : Function) (m m' : Machine) (place n : ℕ) (e : Entered) → Comes g m [] m' → EntryFollows g f m' place n e → EntryFollows g f m place n e
 entry_after g f m m' place n (Enters events arguments set t) a h =
-    record { comes = comes_join g m m' (in_start f place (record { regs = map Some arguments ++ spare f; sets = set ∷ []; seen = []; world = t.world })) [] [] a h.comes; ints = h.ints; count = h.count; left = h.left }
+    record { comes = comes_join g m m' (in_start f place (record { regs = map Some arguments ++ spare f; sets = plain_sets (set ∷ []); seen = []; world = t.world })) [] [] a h.comes; ints = h.ints; count = h.count; left = h.left }
 entry_after g f m m' place n (Stops events how w) a h =
     record {
       count = a.count + h.count;
@@ -88,6 +91,10 @@ entry_after g f m m' place n (Stops events how w) a h =
       choices_left = h.choices_left;
       other = h.other;
     }
+
+-- what a draw notes fails no name
+told : (events : List Event) → fails ((map Did events ++ []) ++ []) ≡ []
+told events = ap fails (append-nil (map Did events ++ []) ∙ append-nil (map Did events)) ∙ fails-did events
 
 -- The stages ------------------------------------------------------------------------------------------------------------
 
@@ -134,11 +141,11 @@ has_call f = has_back (start_code f) (push_place f) (Push ∷ ranges_group f) (a
 
 -- the requires, and then the set
 requires_stage : (p : Program) (events : List Event) (arguments : List ℤ) (st : State) (s : Now)
-    → IsSound p → AllInts arguments → length arguments ≡ p.function.params
-    → s ≡ record { regs = map Some arguments ++ spare p.function; sets = []; seen = []; world = st.world }
+    → IsSound p → AreBare st.world.memory → AllInts arguments → length arguments ≡ p.function.params
+    → s ≡ record { regs = map Some arguments ++ spare p.function; sets = no_sets; seen = []; world = st.world }
     → EntryFollows (goto_of p) p.function (in_start p.function (requires_place p.function) s) (call_place p.function) st.left
     (required p.function arguments st events (all_hold (Clause arguments None) st.world.memory p.function.contract.requires_))
-requires_stage p events arguments st s sound ints count es =
+requires_stage p events arguments st s sound bare ints count es =
     subst (λ x. EntryFollows g f (in_start f (requires_place f) x) (call_place f) st.left (required f arguments st events (all_hold (Clause arguments None) memory f.contract.requires_))) (sym es)
     (by (all_hold (Clause arguments None) memory f.contract.requires_) refl)
   where
@@ -152,7 +159,7 @@ requires_stage p events arguments st s sound ints count es =
     memory = st.world.memory
 
     s0 : Now
-    s0 = record { regs = map Some arguments ++ spare f; sets = []; seen = []; world = st.world }
+    s0 = record { regs = map Some arguments ++ spare f; sets = no_sets; seen = []; world = st.world }
 
     fits : Fits p false (Clause arguments None) (clauses_of f) (map Some arguments ++ spare f) memory
     fits = clause_fits p false arguments None (spare f) (map Some arguments ++ spare f) memory refl ints count (λ e. absurd cc)
@@ -168,18 +175,18 @@ requires_stage p events arguments st s sound ints count es =
     set : WriteSet
     set = set_of f.contract.assigns (Clause arguments None) memory
 
-    ranged : line g start_name (Push ∷ ranges_group f) s0 ≡ Next [] (record s0 { sets = set ∷ [] })
+    ranged : line g start_name (Push ∷ ranges_group f) s0 ≡ Next [] (record s0 { sets = plain_sets (set ∷ []) })
     ranged =
-        before-nil (line g start_name (ranges_group f) (record s0 { sets = new_set memory ∷ [] }))
-        ∙ ranges_line p g start_name (Clause arguments None) (clauses_of f) 1 f.contract.assigns (new_set memory) [] (record s0 { sets = new_set memory ∷ [] }) sound.few sound.assigns refl
+        before-nil (line g start_name (ranges_group f) (record s0 { sets = plain_sets (new_set memory ∷ []) }))
+        ∙ ranges_line p g start_name (Clause arguments None) (clauses_of f) 1 f.contract.assigns (new_set memory) [] (record s0 { sets = plain_sets (new_set memory ∷ []) }) sound.few sound.assigns bare refl
 
     by : (b : Bool) → all_hold (Clause arguments None) memory f.contract.requires_ ≡ b → EntryFollows g f (in_start f (requires_place f) s0) (call_place f) st.left (required f arguments st events b)
     by true e =
         record {
           comes =
-              comes_join g (in_start f (requires_place f) s0) (in_start f (push_place f) s0) (in_start f (call_place f) (record s0 { sets = set ∷ [] })) [] []
+              comes_join g (in_start f (requires_place f) s0) (in_start f (push_place f) s0) (in_start f (call_place f) (record s0 { sets = plain_sets (set ∷ []) })) [] []
               (comes_line g f (requires_place f) (requires_group f) s0 s0 [] (has_front (start_code f) (requires_place f) (requires_group f) (after_requires f) (has_requires f)) (tested ∙ ap (λ b. required_then b s0) e))
-              (comes_line g f (push_place f) (Push ∷ ranges_group f) s0 (record s0 { sets = set ∷ [] }) [] (has_front (start_code f) (push_place f) (Push ∷ ranges_group f) (after_ranges f) (has_push f)) ranged);
+              (comes_line g f (push_place f) (Push ∷ ranges_group f) s0 (record s0 { sets = plain_sets (set ∷ []) }) [] (has_front (start_code f) (push_place f) (Push ∷ ranges_group f) (after_ranges f) (has_push f)) ranged);
           ints = ints;
           count = count;
           left = refl;
@@ -199,10 +206,10 @@ requires_stage p events arguments st s sound ints count es =
 
 -- the arguments
 arguments_stage : (p : Program) (events : List Event) (st : State) (s : Now)
-    → IsSound p → s ≡ record { regs = replicate (start_regs p.function) (Some (pos 0)); sets = []; seen = []; world = st.world }
+    → IsSound p → AreBare st.world.memory → s ≡ record { regs = replicate (start_regs p.function) (Some (pos 0)); sets = no_sets; seen = []; world = st.world }
     → EntryFollows (goto_of p) p.function (in_start p.function 2 s) (call_place p.function) st.left
     (with_arguments p.function st events (draw_arguments p.function.params st.world.choices))
-arguments_stage p events st s sound es =
+arguments_stage p events st s sound bare es =
     subst (λ x. EntryFollows g f (in_start f 2 x) (call_place f) st.left (with_arguments f st events (draw_arguments f.params st.world.choices))) (sym es)
     (by (draw_arguments f.params st.world.choices) (draws_follow g start_name 0 f.params [] (if f.gives_int then 1 else 0) st.world.choices s0 refl refl refl))
   where
@@ -213,7 +220,7 @@ arguments_stage p events st s sound es =
     g = goto_of p
 
     s0 : Now
-    s0 = record { regs = replicate (start_regs f) (Some (pos 0)); sets = []; seen = []; world = st.world }
+    s0 = record { regs = replicate (start_regs f) (Some (pos 0)); sets = no_sets; seen = []; world = st.world }
 
     has : HasAt (start_code f) 2 (draws_code 0 f.params)
     has = has_front (start_code f) 2 (draws_code 0 f.params) (after_draws f) (has_start f).1.1
@@ -222,11 +229,11 @@ arguments_stage p events st s sound es =
         → EntryFollows g f (in_start f 2 s0) (call_place f) st.left (with_arguments f st events d)
     by (Drew arguments rest more) h =
         let t = with_choices rest st in
-        let s1 : Now = record { regs = map Some arguments ++ spare f; sets = []; seen = []; world = t.world } in
+        let s1 : Now = record { regs = map Some arguments ++ spare f; sets = no_sets; seen = []; world = t.world } in
         let comes = comes_line g f 2 (draws_code 0 f.params) s0 s1 h.notes has h.by in
         entry_after g f (in_start f 2 s0) (in_start f (requires_place f) s1) (call_place f) st.left _
         (record { count = comes.count; notes = comes.notes; by = comes.by; same = comes.same ∙ h.same })
-        (requires_stage p (events ++ more) arguments t s1 sound h.ints h.count refl)
+        (requires_stage p (events ++ more) arguments t s1 sound bare h.ints h.count refl)
     by (Dry more) h =
         record {
           count = length (draws_code 0 f.params);
@@ -254,10 +261,10 @@ statics_memory p statics are =
 
 -- the outside objects
 outside_stage : (p : Program) (events : List Event) (statics : Memory) (st : State) (s : Now)
-    → IsSound p → s ≡ record { regs = replicate (start_regs p.function) (Some (pos 0)); sets = []; seen = []; world = (with_memory (function_object ∷ statics) st).world }
+    → IsSound p → AreStatics (static_sizes p) statics → s ≡ record { regs = replicate (start_regs p.function) (Some (pos 0)); sets = no_sets; seen = []; world = (with_memory (function_object ∷ statics) st).world }
     → EntryFollows (goto_of p) p.function (in_start p.function 1 s) (call_place p.function) st.left
     (with_entry p.function st (after events (with_outside (function_object ∷ statics) st.world.choices)))
-outside_stage p events statics st s sound es =
+outside_stage p events statics st s sound are es =
     subst (λ x. EntryFollows g f (in_start f 1 x) (call_place f) st.left (with_entry f st (after events (with_outside (function_object ∷ statics) st.world.choices)))) (sym es)
     (by (with_outside (function_object ∷ statics) st.world.choices) refl)
   where
@@ -268,22 +275,22 @@ outside_stage p events statics st s sound es =
     g = goto_of p
 
     s0 : Now
-    s0 = record { regs = replicate (start_regs f) (Some (pos 0)); sets = []; seen = []; world = (with_memory (function_object ∷ statics) st).world }
+    s0 = record { regs = replicate (start_regs f) (Some (pos 0)); sets = no_sets; seen = []; world = (with_memory (function_object ∷ statics) st).world }
 
     has : HasAt (start_code f) 1 (OutsideObjects ∷ [])
     has = ((has_start f).1.0, tt)
 
-    acts : (d : Drawn Memory) → with_outside (function_object ∷ statics) st.world.choices ≡ d → line g start_name (OutsideObjects ∷ []) s0 ≡ then_next (drawn d s0 (λ memory t. with_now_memory memory t)) (line g start_name [])
-    acts d e = ap (λ x. then_next (drawn x s0 (λ memory t. with_now_memory memory t)) (line g start_name [])) e
+    acts : (d : Drawn Memory) → with_outside (function_object ∷ statics) st.world.choices ≡ d → line g start_name (OutsideObjects ∷ []) s0 ≡ then_next (drawn d s0 (λ memory t. Next [] (with_now_memory memory t))) (line g start_name [])
+    acts d e = ap (λ x. then_next (drawn x s0 (λ memory t. Next [] (with_now_memory memory t))) (line g start_name [])) e
 
     by : (d : Drawn Memory) → with_outside (function_object ∷ statics) st.world.choices ≡ d → EntryFollows g f (in_start f 1 s0) (call_place f) st.left (with_entry f st (after events d))
     by (Drew memory rest more) e =
         let t = with_choices rest (with_memory memory st) in
         let s1 : Now = record s0 { world = t.world } in
-        let comes = comes_line g f 1 (OutsideObjects ∷ []) s0 s1 (map Did more ++ []) has (acts (Drew memory rest more) e) in
+        let comes = comes_line g f 1 (OutsideObjects ∷ []) s0 s1 ((map Did more ++ []) ++ []) has (acts (Drew memory rest more) e) in
         entry_after g f (in_start f 1 s0) (in_start f 2 s1) (call_place f) st.left _
-        (record { count = comes.count; notes = comes.notes; by = comes.by; same = comes.same ∙ ap fails (append-nil (map Did more)) ∙ fails-did more })
-        (arguments_stage p (events ++ more) t s1 sound refl)
+        (record { count = comes.count; notes = comes.notes; by = comes.by; same = comes.same ∙ told more })
+        (arguments_stage p (events ++ more) t s1 sound (drawn-bare (static_sizes p) statics st.world.choices memory rest more are e) refl)
     by (Dry more) e =
         record {
           count = 1;
@@ -299,10 +306,10 @@ outside_stage p events statics st s sound es =
 pub entry_follows : (p : Program) (st : State) (w : World)
     → IsSound p → w ≡ record st.world { memory = first_memory (goto_of p) }
     → EntryFollows (goto_of p) p.function
-    (in_start p.function 0 (record { regs = replicate (start_regs p.function) (Some (pos 0)); sets = []; seen = []; world = w }))
+    (in_start p.function 0 (record { regs = replicate (start_regs p.function) (Some (pos 0)); sets = no_sets; seen = []; world = w }))
     (call_place p.function) st.left (entered p st)
 entry_follows p st w sound ew =
-    subst (λ x. EntryFollows g f (in_start f 0 (record { regs = replicate (start_regs f) (Some (pos 0)); sets = []; seen = []; world = x })) (call_place f) st.left (entered p st)) (sym ew)
+    subst (λ x. EntryFollows g f (in_start f 0 (record { regs = replicate (start_regs f) (Some (pos 0)); sets = no_sets; seen = []; world = x })) (call_place f) st.left (entered p st)) (sym ew)
     (by (static_objects (static_sizes p) st.world.choices) refl)
   where
     f : Function
@@ -312,7 +319,7 @@ entry_follows p st w sound ew =
     g = goto_of p
 
     s0 : Now
-    s0 = record { regs = replicate (start_regs f) (Some (pos 0)); sets = []; seen = []; world = record st.world { memory = first_memory g } }
+    s0 = record { regs = replicate (start_regs f) (Some (pos 0)); sets = no_sets; seen = []; world = record st.world { memory = first_memory g } }
 
     has : HasAt (start_code f) 0 (Statics ∷ [])
     has = ((has_start f).0, tt)
@@ -320,10 +327,10 @@ entry_follows p st w sound ew =
     go : Memory → Now → Now
     go statics t = with_now_memory (with_statics g statics t.world.memory) t
 
-    acts : (d : Drawn Memory) → static_objects (static_sizes p) st.world.choices ≡ d → line g start_name (Statics ∷ []) s0 ≡ then_next (drawn d s0 go) (line g start_name [])
+    acts : (d : Drawn Memory) → static_objects (static_sizes p) st.world.choices ≡ d → line g start_name (Statics ∷ []) s0 ≡ then_next (drawn d s0 (λ statics t. Next [] (go statics t))) (line g start_name [])
     acts d e =
-        ap (λ sizes. then_next (drawn (static_objects sizes st.world.choices) s0 go) (line g start_name [])) (sizes_same p.statics)
-        ∙ ap (λ x. then_next (drawn x s0 go) (line g start_name [])) e
+        ap (λ sizes. then_next (drawn (static_objects sizes st.world.choices) s0 (λ statics t. Next [] (go statics t))) (line g start_name [])) (sizes_same p.statics)
+        ∙ ap (λ x. then_next (drawn x s0 (λ statics t. Next [] (go statics t))) (line g start_name [])) e
 
     by : (d : Drawn Memory) → static_objects (static_sizes p) st.world.choices ≡ d
         → EntryFollows g f (in_start f 0 s0) (call_place f) st.left (with_entry f st (bind d (λ statics. with_outside (function_object ∷ statics))))
@@ -331,10 +338,10 @@ entry_follows p st w sound ew =
         let t = with_choices rest st in
         let are : AreStatics (static_sizes p) statics = subst (DrewStatics (static_sizes p)) e (drawn-statics (static_sizes p) st.world.choices) in
         let s1 : Now = record s0 { world = (with_memory (with_statics g statics (first_memory g)) t).world } in
-        let comes = comes_line g f 0 (Statics ∷ []) s0 s1 (map Did more ++ []) has (acts (Drew statics rest more) e) in
+        let comes = comes_line g f 0 (Statics ∷ []) s0 s1 ((map Did more ++ []) ++ []) has (acts (Drew statics rest more) e) in
         entry_after g f (in_start f 0 s0) (in_start f 1 s1) (call_place f) st.left _
-        (record { count = comes.count; notes = comes.notes; by = comes.by; same = comes.same ∙ ap fails (append-nil (map Did more)) ∙ fails-did more })
-        (outside_stage p more statics t s1 sound (ap (λ m. record s0 { world = (with_memory m t).world }) (statics_memory p statics are)))
+        (record { count = comes.count; notes = comes.notes; by = comes.by; same = comes.same ∙ told more })
+        (outside_stage p more statics t s1 sound are (ap (λ m. record s0 { world = (with_memory m t).world }) (statics_memory p statics are)))
     by (Dry more) e =
         record {
           count = 1;

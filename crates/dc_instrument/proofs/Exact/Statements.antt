@@ -19,35 +19,44 @@ use Rattle.dc_core.specs.Sound.{Stands, IsLvalue, StmtStands}
 use Rattle.dc_core.specs.Run.{State, Out, Normal, Returned, Ended, Note, Did, Failed, checked, tick_at, with_some, then_do, contract_mode, perform, write, run, with_memory}
 use Rattle.dc_core.proofs.Numbers.{HasInt}
 use Rattle.dc_goto.specs.Program.{Instr, Set, Store, Covers, Return, GotoProgram}
-use Rattle.dc_goto.specs.Machine.{Registers, Now, Then, Next, Ends, Leaves as LeavesWith, given, act, covered, term_value, natural_value, with_register, with_memory as with_now_memory, proceed, Going, left_body}
+use Rattle.dc_goto.specs.Machine.{Registers, Now, Then, Next, Ends, Leaves as LeavesWith, act, proceed, Going, left_body}
+use Rattle.dc_goto.specs.Values.{joined}
+use Rattle.dc_goto.specs.Acts.{defined, with_register, with_memory as with_now_memory}
 use Rattle.dc_goto.proofs.Notes.{fails, fails-append}
 use Rattle.dc_goto.proofs.Line.{HasAt, has_front, has_back, line, line_next, line_ends, before, then_next, before-nil}
 use Rattle.dc_goto.proofs.Steps.{one, steps_join}
 use Rattle.dc_goto.proofs.Registers.{get-set-other, get-set-same, length-set}
-use Rattle.dc_goto.proofs.Values.{as_natural-pos}
 use Rattle.dc_instrument.specs.Lowering.{term_of, place_term, int_len, statements_code}
 use Rattle.dc_instrument.specs.declared.places.Places.TheVariants as places
-use Rattle.dc_instrument.proofs.Exact.Values.{SameInt, SamePlace, Held, AllHeld, value_same, place_same, body_fits}
+use Rattle.dc_instrument.proofs.Exact.Plain.{IsPlain, plain_value, pointer_value, set_acts, store_acts, covers_acts}
+use Rattle.dc_instrument.proofs.Exact.Sets.{plain_sets, covered_same}
+use Rattle.dc_instrument.proofs.Exact.Values.{SameInt, SamePlace, Held, AllHeld, value_plain, place_plain, value_same, place_same, body_fits}
 use Rattle.dc_instrument.proofs.Exact.Follow.{Spot, now, in_body, ResultFits, Follows, after}
 
 -- Instructions of a line -----------------------------------------------------------------------------------------
 
 set_none : (g : GotoProgram) (name : List ℕ) (r : ℕ) (e : Term) (is : List Instr) (s : Now)
-    → term_value s.regs s.world.memory e ≡ None → line g name (Set r e ∷ is) s ≡ Ends [] (end.Undefined name) s.world
-set_none g name r e is s h = ap (λ o. then_next (given name s.world o (λ v. Next [] (with_register r v s))) (line g name is)) h
+    → IsPlain e → plain_value s.regs s.world.memory e ≡ None → line g name (Set r e ∷ is) s ≡ Ends [] (end.Undefined name) s.world
+set_none g name r e is s plain h =
+    ap (λ t. then_next t (line g name is)) (set_acts g name s r e plain ∙ ap (λ o. defined name o s (λ v. Next [] (with_register r (Some v) s))) h)
 
 set_some : (g : GotoProgram) (name : List ℕ) (r : ℕ) (e : Term) (is : List Instr) (s : Now) (v : ℤ)
-    → term_value s.regs s.world.memory e ≡ Some v → line g name (Set r e ∷ is) s ≡ line g name is (with_register r v s)
-set_some g name r e is s v h =
-    ap (λ o. then_next (given name s.world o (λ v. Next [] (with_register r v s))) (line g name is)) h
-    ∙ before-nil (line g name is (with_register r v s))
+    → IsPlain e → plain_value s.regs s.world.memory e ≡ Some v → line g name (Set r e ∷ is) s ≡ line g name is (with_register r (Some v) s)
+set_some g name r e is s v plain h =
+    ap (λ t. then_next t (line g name is)) (set_acts g name s r e plain ∙ ap (λ o. defined name o s (λ v. Next [] (with_register r (Some v) s))) h)
+    ∙ before-nil (line g name is (with_register r (Some v) s))
+
+-- an int is written, or the run ends
+abbrev stores : List ℕ → Now → ℕ → Option Memory → Then
+stores name s pointer o = defined name o s (λ memory. Next (Did (Write (object_of pointer) (offset_of pointer) 4) ∷ []) (with_now_memory memory s))
 
 store_act : (g : GotoProgram) (name : List ℕ) (a e : Term) (s : Now) (pointer : ℕ) (v : ℤ)
-    → natural_value s.regs s.world.memory a ≡ Some pointer → term_value s.regs s.world.memory e ≡ Some v
-    → act g name (Store S32 a e) s ≡ given name s.world (store mem.S32 pointer v s.world.memory) (λ memory. Next (Did (Write (object_of pointer) (offset_of pointer) 4) ∷ []) (with_now_memory memory s))
-store_act g name a e s pointer v ha he =
-    ap (λ o. given name s.world o (λ q. given name s.world (term_value s.regs s.world.memory e) (λ x. given name s.world (store mem.S32 q x s.world.memory) (λ memory. Next (Did (Write (object_of q) (offset_of q) 4) ∷ []) (with_now_memory memory s))))) ha
-    ∙ ap (λ o. given name s.world o (λ x. given name s.world (store mem.S32 pointer x s.world.memory) (λ memory. Next (Did (Write (object_of pointer) (offset_of pointer) 4) ∷ []) (with_now_memory memory s)))) he
+    → IsPlain a → IsPlain e → pointer_value s.regs s.world.memory a ≡ Some pointer → plain_value s.regs s.world.memory e ≡ Some v
+    → act g name (Store S32 a e) s ≡ stores name s pointer (store mem.S32 pointer v s.world.memory)
+store_act g name a e s pointer v plain_a plain_e ha he =
+    store_acts g name s a e plain_a plain_e
+    ∙ ap (λ o. defined name o s (λ q. defined name (plain_value s.regs s.world.memory e) s (λ x. stores name s q (store mem.S32 q x s.world.memory)))) ha
+    ∙ ap (λ o. defined name o s (λ x. stores name s pointer (store mem.S32 pointer x s.world.memory))) he
 
 -- where the range isn't inside a live object, nothing is written
 store_outside : (pointer : ℕ) (v : ℤ) (memory : Memory) → store mem.S32 pointer v memory ≡ None → is_inside memory pointer 4 ≡ false
@@ -65,15 +74,6 @@ store_inside pointer v memory m' h = by (is_inside memory pointer 4) _ refl h
     by : (b : Bool) (m : Memory) → is_inside memory pointer 4 ≡ b → (if b then Some m else None) ≡ Some m' → is_inside memory pointer 4 ≡ true
     by true m e h = e
     by false m e h = cc
-
--- the test of a write of an int at a place
-covered_at : (set : WriteSet) (outer : List WriteSet) (regs : Registers) (memory : Memory) (a : Term) (pointer : ℕ) (b : Bool)
-    → natural_value regs memory a ≡ Some pointer → is_inside memory pointer 4 ≡ b
-    → covered (set ∷ outer) memory (natural_value regs memory a) (natural_value regs memory int_len) ≡ (if b then allowed set (object_of pointer) (offset_of pointer) 4 else true)
-covered_at set outer regs memory a pointer b ha hb =
-    ap (λ o. covered (set ∷ outer) memory o (natural_value regs memory int_len)) ha
-    ∙ ap (λ n. covered (set ∷ outer) memory (Some pointer) (Some n)) (as_natural-pos 4 (omega arith))
-    ∙ ap (λ t. if t then allowed set (object_of pointer) (offset_of pointer) 4 else true) hb
 
 -- Registers of the parameters ---------------------------------------------------------------------------------------
 
@@ -108,7 +108,7 @@ abbrev assign_code : Spot → ℕ → ℕ → ℕ → Expr → Expr → List Ins
 assign_code c first r site target e = Set r (term_of (places.Body first) e) ∷ Covers (assigns_name c.name site) (place_term (places.Body first) target) int_len ∷ Store S32 (place_term (places.Body first) target) (Register r) ∷ []
 
 assign_follows : (p : Program) (g : GotoProgram) (c : Spot) (set : WriteSet) (outer : List WriteSet) (at_places : List ℕ) (first r site : ℕ) (target e : Expr) (regs : Registers) (st : State)
-    → length p.statics ≤ 32766 → c.sets ≡ set ∷ outer → AllHeld p at_places regs first → first + p.function.params ≤ r → r < length regs
+    → length p.statics ≤ 32766 → c.sets ≡ plain_sets (set ∷ outer) → AllHeld p at_places regs first → first + p.function.params ≤ r → r < length regs
     → IsLvalue p target → Stands p false e
     → Assigned g c (assign_code c first r site target e) regs r (perform contract_mode c.name set at_places (Assign site target e) st) st
     ⊎ Undefined g c (assign_code c first r site target e) regs (perform contract_mode c.name set at_places (Assign site target e) st) st
@@ -127,8 +127,11 @@ assign_follows p g c set outer at_places first r site target e regs st few es he
     s : Now
     s = now c regs st.world
 
-    vs : SameInt (value (Body at_places) memory e) (term_value regs memory (term_of (places.Body first) e))
+    vs : SameInt (value (Body at_places) memory e) (plain_value regs memory (term_of (places.Body first) e))
     vs = value_same p false (Body at_places) (places.Body first) regs memory e few (body_fits p at_places regs memory first held) stands
+
+    plain : IsPlain (term_of (places.Body first) e)
+    plain = value_plain (places.Body first) e
 
     rest : List Instr
     rest = Covers name a int_len ∷ Store S32 a (Register r) ∷ []
@@ -151,7 +154,7 @@ assign_follows p g c set outer at_places first r site target e regs st few es he
           notes = [];
           more = [];
           source = ap source_of ev;
-          target = set_none g c.name r (term_of (places.Body first) e) rest s (sym vs.same ∙ ev);
+          target = set_none g c.name r (term_of (places.Body first) e) rest s plain (sym vs.same ∙ ev);
           same = refl;
         })
     by_value (Some v) ev = by_store (store mem.S32 ps.pointer v memory) refl
@@ -165,36 +168,34 @@ assign_follows p g c set outer at_places first r site target e regs st few es he
         held' : AllHeld p at_places regs' first
         held' = all_held_set p at_places regs first r (Some v) above held
 
-        ps : SamePlace (place (Body at_places) target) (natural_value regs' memory a)
+        ps : SamePlace (place (Body at_places) target) (pointer_value regs' memory a)
         ps = place_same p at_places regs' memory first target few held' lv
 
-        pointer_is : natural_value regs' memory a ≡ Some ps.pointer
+        pointer_is : pointer_value regs' memory a ≡ Some ps.pointer
         pointer_is = sym ps.same ∙ ps.known
 
-        register_is : term_value regs' memory (Register r) ≡ Some v
-        register_is = ap read (get-set-same regs r (Some v) below)
-          where
-            read : Option (Option ℤ) → Option ℤ
-            read None = None
-            read (Some held) = held
+        register_is : plain_value regs' memory (Register r) ≡ Some v
+        register_is = ap joined (get-set-same regs r (Some v) below)
 
         source_is : source_of (value (Body at_places) memory e) ≡ stored ps.pointer (store mem.S32 ps.pointer v memory)
         source_is = ap source_of ev ∙ ap (λ o. written o v) ps.known
 
-        store_is : act g c.name (Store S32 a (Register r)) s' ≡ given c.name st.world (store mem.S32 ps.pointer v memory) (λ m. Next (Did (Write (object_of ps.pointer) (offset_of ps.pointer) 4) ∷ []) (with_now_memory m s'))
-        store_is = store_act g c.name a (Register r) s' ps.pointer v pointer_is register_is
+        store_is : act g c.name (Store S32 a (Register r)) s' ≡ stores c.name s' ps.pointer (store mem.S32 ps.pointer v memory)
+        store_is = store_act g c.name a (Register r) s' ps.pointer v (place_plain first target) tt pointer_is register_is
 
         test : Bool → Bool
         test b = if b then allowed set (object_of ps.pointer) (offset_of ps.pointer) 4 else true
 
-        covers_is : (b : Bool) → is_inside memory ps.pointer 4 ≡ b → covered c.sets memory (natural_value regs' memory a) (natural_value regs' memory int_len) ≡ test b
-        covers_is b hb = ap (λ l. covered l memory (natural_value regs' memory a) (natural_value regs' memory int_len)) es ∙ covered_at set outer regs' memory a ps.pointer b pointer_is hb
+        covers_is : (b : Bool) → is_inside memory ps.pointer 4 ≡ b → act g c.name (Covers name a int_len) s' ≡ Next (checked name (test b)) s'
+        covers_is b hb =
+            covers_acts g c.name s' name a int_len (place_plain first target) tt
+            ∙ ap (λ t. Next (checked name t) s') (covered_same set outer s' (plain_value regs' memory a) ps.pointer b es pointer_is hb)
 
         target_is : (b : Bool) (t : Then) → is_inside memory ps.pointer 4 ≡ b → act g c.name (Store S32 a (Register r)) s' ≡ t
             → line g c.name (Set r (term_of (places.Body first) e) ∷ rest) s ≡ before (checked name (test b)) (then_next t (line g c.name []))
         target_is b t hb ht =
-            set_some g c.name r (term_of (places.Body first) e) rest s v (sym vs.same ∙ ev)
-            ∙ ap (λ x. before (checked name x) (then_next (act g c.name (Store S32 a (Register r)) s') (line g c.name []))) (covers_is b hb)
+            set_some g c.name r (term_of (places.Body first) e) rest s v plain (sym vs.same ∙ ev)
+            ∙ ap (λ x. then_next x (line g c.name (Store S32 a (Register r) ∷ []))) (covers_is b hb)
             ∙ ap (λ x. before (checked name (test b)) (then_next x (line g c.name []))) ht
 
         by_store : (o : Option Memory) → store mem.S32 ps.pointer v memory ≡ o → Goal (source_of (value (Body at_places) memory e))
@@ -205,7 +206,7 @@ assign_follows p g c set outer at_places first r site target e regs st few es he
               source = source_is ∙ ap (stored ps.pointer) eo;
               target =
                   target_is false (Ends [] (end.Undefined c.name) st.world) (store_outside ps.pointer v memory eo)
-                  (store_is ∙ ap (λ o. given c.name st.world o (λ m. Next (Did (Write (object_of ps.pointer) (offset_of ps.pointer) 4) ∷ []) (with_now_memory m s'))) eo)
+                  (store_is ∙ ap (stores c.name s' ps.pointer) eo)
                   ∙ ap (λ ns. Ends ns (end.Undefined c.name) st.world) (append-nil (checked name true));
               same = refl;
             })
@@ -221,7 +222,7 @@ assign_follows p g c set outer at_places first r site target e regs st few es he
               left = refl;
               target =
                   target_is true (Next (did ∷ []) (with_now_memory m s')) (store_inside ps.pointer v memory m eo)
-                  (store_is ∙ ap (λ o. given c.name st.world o (λ m. Next (did ∷ []) (with_now_memory m s'))) eo);
+                  (store_is ∙ ap (stores c.name s' ps.pointer) eo);
               same =
                   fails-append (checked name ok) (did ∷ [])
                   ∙ append-nil (fails (checked name ok));
@@ -229,7 +230,7 @@ assign_follows p g c set outer at_places first r site target e regs st few es he
 
 -- the code of statements does what the statements do
 pub statements_follow : (p : Program) (g : GotoProgram) (c : Spot) (set : WriteSet) (outer : List WriteSet) (at_places : List ℕ) (first r pc : ℕ) (body : List Stmt) (regs : Registers) (st : State)
-    → length p.statics ≤ 32766 → c.sets ≡ set ∷ outer → AllHeld p at_places regs first → first + p.function.params ≤ r → r + length body ≤ length regs
+    → length p.statics ≤ 32766 → c.sets ≡ plain_sets (set ∷ outer) → AllHeld p at_places regs first → first + p.function.params ≤ r → r + length body ≤ length regs
     → All (StmtStands p) body → HasAt c.code pc (statements_code c.name first r body)
     → Follows g p.function.gives_int c (in_body c pc regs st.world) st.left (pc + length (statements_code c.name first r body)) (run contract_mode c.name set at_places body st)
 statements_follow p g c set outer at_places first r pc [] regs st few es held above below all has =
@@ -296,6 +297,9 @@ statements_follow p g c set outer at_places first r pc (ReturnStmt e ∷ body) r
     t' : Term
     t' = term_of (places.Body first) e
 
+    plain : IsPlain t'
+    plain = value_plain (places.Body first) e
+
     s : Now
     s = now c regs st.world
 
@@ -308,7 +312,7 @@ statements_follow p g c set outer at_places first r pc (ReturnStmt e ∷ body) r
     below' : r < length regs
     below' = omega arith
 
-    vs : SameInt (value (Body at_places) memory e) (term_value regs memory t')
+    vs : SameInt (value (Body at_places) memory e) (plain_value regs memory t')
     vs = value_same p false (Body at_places) (places.Body first) regs memory e few (body_fits p at_places regs memory first held) (All-head (StmtStands p) (ReturnStmt e) body all).1
 
     with_left : ℕ → State
@@ -329,12 +333,12 @@ statements_follow p g c set outer at_places first r pc (ReturnStmt e ∷ body) r
         record {
           count = 1;
           notes = [];
-          by = line_ends g c.name c.code c.frames (Set r t' ∷ []) pc s [] (end.Undefined c.name) st.world (has.0, tt) (set_none g c.name r t' [] s (sym vs.same ∙ ev));
+          by = line_ends g c.name c.code c.frames (Set r t' ∷ []) pc s [] (end.Undefined c.name) st.world (has.0, tt) (set_none g c.name r t' [] s plain (sym vs.same ∙ ev));
           same = refl;
         }
     by_value k (Some v) ev =
         let regs' = slice_set regs r (Some v) in
-        let set_it = line_next g c.name c.code c.frames (Set r t' ∷ []) pc s (now c regs' st.world) [] (has.0, tt) (set_some g c.name r t' [] s v (sym vs.same ∙ ev)) in
+        let set_it = line_next g c.name c.code c.frames (Set r t' ∷ []) pc s (now c regs' st.world) [] (has.0, tt) (set_some g c.name r t' [] s v plain (sym vs.same ∙ ev)) in
         let next_place : pc + 1 ≡ suc pc = omega arith in (
           record {
             count = 1 + 1;
@@ -344,15 +348,11 @@ statements_follow p g c set outer at_places first r pc (ReturnStmt e ∷ body) r
                 steps_join g 1 1 (in_body c pc regs st.world) (in_body c (suc pc) regs' st.world) [] (left_body (now c regs' st.world) (Some v) c.frames)
                 (set_it ∙ ap (λ q. Going [] (in_body c q regs' st.world)) next_place)
                 (one g (in_body c (suc pc) regs' st.world) (Return (Some (Register r))) (left_body (now c regs' st.world) (Some v) c.frames) has.1.0
-                (ap (λ o. proceed g (in_body c (suc pc) regs' st.world) (given c.name st.world (read o) (λ x. LeavesWith (Some x)))) (get-set-same regs r (Some v) below')));
+                (ap (λ o. proceed g (in_body c (suc pc) regs' st.world) (defined c.name (joined o) (now c regs' st.world) (λ x. LeavesWith (Some x) (now c regs' st.world)))) (get-set-same regs r (Some v) below')));
             same = refl;
           },
           fits p.function.gives_int v (All-head (StmtStands p) (ReturnStmt e) body all).0 (subst HasInt ev vs.int),
         )
-      where
-        read : Option (Option ℤ) → Option ℤ
-        read None = None
-        read (Some held) = held
 
     by_left : (n : ℕ) → Goal n (tick_at n st (λ t. then_do (perform contract_mode c.name set at_places (ReturnStmt e) t) rest))
     by_left zero = record { count = 0; notes = []; state = in_body c pc regs st.world; by = refl; same = refl; enough = omega arith }

@@ -12,12 +12,16 @@ use Rattle.dc_core.specs.Outcome.{Outcome, IsSame, Agrees, IsExact}
 use Rattle.dc_core.specs.Run.{State, Out, Normal, Returned, Ended, Cut, Note, Did, noted, contract_mode, call, ensured, tested, Entered, Enters, Stops, entered, start_state, contract_from, contract_run, seen, seen_out}
 use Rattle.dc_core.proofs.Tracked.{exact_runs}
 use Rattle.dc_goto.specs.Program.{Instr, Pop, Return, GotoProgram}
-use Rattle.dc_goto.specs.Machine.{Registers, Now, Then, Next, given, returned, term_value, Machine, Run, Going, Stopped, noted as noted_run, go_on, left_body, body_of, proceed, steps, start, start_at, first_registers, first_world, with_result, goto_run, seen_run}
+use Rattle.dc_writeset.specs.Sets.{no_sets}
+use Rattle.dc_goto.specs.Values.{joined}
+use Rattle.dc_goto.specs.Acts.{defined, returned}
+use Rattle.dc_goto.specs.Machine.{Registers, Now, Then, Next, Machine, Run, Going, Stopped, noted as noted_run, go_on, left_body, body_of, proceed, steps, start, start_at, first_registers, first_world, with_result, goto_run, seen_run}
 use Rattle.dc_goto.proofs.Notes.{fails, fails-append, fails-did}
 use Rattle.dc_goto.proofs.Line.{HasAt, has_front, has_back, line, before, then_next, before-nil, at}
 use Rattle.dc_goto.proofs.Steps.{noted-nil, one, steps_join, steps_stay, run_goes_on}
 use Rattle.dc_goto.proofs.Registers.{get-here, set-here, length-map}
 use Rattle.dc_instrument.specs.Lowering.{checks_code, clauses_of, start_code, start_body, start_regs, function_body, result_register, result_value, goto_of}
+use Rattle.dc_instrument.proofs.Exact.Sets.{plain_sets}
 use Rattle.dc_instrument.proofs.Exact.Values.{Fits}
 use Rattle.dc_instrument.proofs.Exact.Parameters.{AllInts}
 use Rattle.dc_instrument.proofs.Exact.Follow.{ResultFits}
@@ -28,16 +32,16 @@ use Rattle.dc_instrument.proofs.Exact.Start.{start_name, in_start, comes_join, s
 -- The machine's first state ---------------------------------------------------------------------------------------------
 
 first_now : Program → List ℕ → Now
-first_now p choices = record { regs = replicate (start_regs p.function) (Some (pos 0)); sets = []; seen = []; world = first_world (goto_of p) choices }
+first_now p choices = record { regs = replicate (start_regs p.function) (Some (pos 0)); sets = no_sets; seen = []; world = first_world (goto_of p) choices }
 
 abbrev first_machine : Program → List ℕ → Machine
-first_machine p choices = in_start p.function 0 (record { regs = replicate (start_regs p.function) (Some (pos 0)); sets = []; seen = []; world = first_world (goto_of p) choices })
+first_machine p choices = in_start p.function 0 (record { regs = replicate (start_regs p.function) (Some (pos 0)); sets = no_sets; seen = []; world = first_world (goto_of p) choices })
 
 started : (p : Program) (choices : List ℕ) → IsSound p → start (goto_of p) choices ≡ Going [] (first_machine p choices)
 started p choices sound =
     let n : start_regs p.function - 0 ≡ start_regs p.function = omega arith in
     ap (λ b. start_at (goto_of p) choices (if b then Some (function_body p.function) else body_of (start_body p.function ∷ []) start_name)) sound.name
-    ∙ ap (λ k. Going [] (in_start p.function 0 (record { regs = replicate k (Some (pos 0)); sets = []; seen = []; world = first_world (goto_of p) choices }))) n
+    ∙ ap (λ k. Going [] (in_start p.function 0 (record { regs = replicate k (Some (pos 0)); sets = no_sets; seen = []; world = first_world (goto_of p) choices }))) n
 
 run_from : (p : Program) (choices : List ℕ) (m : ℕ) → IsSound p → goto_run (goto_of p) m choices ≡ seen_run choices (steps (goto_of p) m (first_machine p choices))
 run_from p choices m sound =
@@ -70,12 +74,12 @@ result_held false result fits e = absurd cc
 -- the start's last instruction gives the result
 returned_is : (b : Bool) (params : ℕ) (arguments : List ℤ) (result : Option ℤ) (s : Now) → length arguments ≡ params → ResultFits b result
     → s.regs ≡ map Some arguments ++ result_tail b result
-    → returned start_name s (if b then Some (Rattle.dc_core.specs.Term.Register params) else None) ≡ Rattle.dc_goto.specs.Machine.Leaves result
+    → returned start_name s (if b then Some (Rattle.dc_core.specs.Term.Register params) else None) ≡ Rattle.dc_goto.specs.Machine.Leaves result s
 unfolding result_tail
 returned_is true params arguments None s e fits er = absurd fits
 returned_is true params arguments (Some v) s e fits er =
     let m = length-map Some arguments in
-    ap (λ o. given start_name s.world (Rattle.dc_goto.specs.Machine.register_value o) (λ x. Rattle.dc_goto.specs.Machine.Leaves (Some x)))
+    ap (λ o. defined start_name (joined o) s (λ x. Rattle.dc_goto.specs.Machine.Leaves (Some x) s))
     (ap (λ l. slice_get l params) er ∙ get-here (map Some arguments) (Some v) [] params (m ∙ e))
 returned_is false params arguments None s e fits er = refl
 returned_is false params arguments (Some v) s e fits er = absurd fits
@@ -94,7 +98,7 @@ pub record ReturnsAt (p : Program) (m : Machine) (names : List (List ℕ)) (resu
 tests_follow : (p : Program) (place : ℕ) (arguments : List ℤ) (result : Option ℤ) (set : WriteSet) (w : World)
     → IsSound p → AllInts arguments → length arguments ≡ p.function.params → ResultFits p.function.gives_int result → w.locals ≡ []
     → HasAt (start_code p.function) place (checks_group p.function ++ Pop ∷ Return (result_value p.function) ∷ [])
-    → ReturnsAt p (in_start p.function place (record { regs = map Some arguments ++ result_tail p.function.gives_int result; sets = set ∷ []; seen = []; world = w }))
+    → ReturnsAt p (in_start p.function place (record { regs = map Some arguments ++ result_tail p.function.gives_int result; sets = plain_sets (set ∷ []); seen = []; world = w }))
     (fails (tested p.function.name 1 (Clause arguments result) w.memory p.function.contract.ensures_)) result w
 tests_follow p place arguments result set w sound ints count fits alone has =
     record {
@@ -129,10 +133,10 @@ tests_follow p place arguments result set w sound ints count fits alone has =
     regs = map Some arguments ++ result_tail f.gives_int result
 
     s : Now
-    s = record { regs = regs; sets = set ∷ []; seen = []; world = w }
+    s = record { regs = regs; sets = plain_sets (set ∷ []); seen = []; world = w }
 
     s2 : Now
-    s2 = record { regs = regs; sets = []; seen = []; world = w }
+    s2 = record { regs = regs; sets = no_sets; seen = []; world = w }
 
     m : Machine
     m = in_start f place s
@@ -235,7 +239,7 @@ from_call p choices events arguments set t sound alone c =
     g = goto_of p
 
     s : Now
-    s = record { regs = map Some arguments ++ spare f; sets = set ∷ []; seen = []; world = t.world }
+    s = record { regs = map Some arguments ++ spare f; sets = plain_sets (set ∷ []); seen = []; world = t.world }
 
     names_of : (ns : List Note) → fails (map Did events ++ ns) ≡ fails ns
     names_of ns = fails-append (map Did events) ns ∙ ap (λ x. x ++ fails ns) (fails-did events)

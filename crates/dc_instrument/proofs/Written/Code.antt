@@ -13,9 +13,10 @@ use Rattle.dc_core.specs.Sound.{Stands, IsTarget, StmtStands, IsSound}
 use Rattle.dc_core.specs.Term.{Term, Constant, Register}
 use Rattle.dc_text.specs.Words.{same, is_word}
 use Rattle.dc_goto.specs.Lines.{BodyHead, head_of, IsTerm, IsInstr}
-use Rattle.dc_goto.specs.Program.{Instr, Set, Store, Init, LocalZero, Covers, Call, Return, Trap, Statics, OutsideObjects, Draw, Seen, Require, Push, Range, Check, Pop, Sig}
+use Rattle.dc_goto.specs.Program.{Instr, Set, Store, Init, Local, Covers, Call, Return, Trap, Statics, OutsideObjects, Draw, Seen, Require, Push, Range, Check, Pop, Sig}
 use Rattle.dc_goto.specs.Shape as shape
 use Rattle.dc_goto.specs.Shape.{may_mean, may_act, may_call, may_return, may_take, is_some, leaves}
+use Rattle.dc_goto.specs.declared.operands.Bytes.TheVariants.{Zero}
 use Rattle.dc_goto.proofs.Digits.{both_true}
 use Rattle.dc_instrument.specs.Lowering.{term_of, place_term, int_len, parameters_code, statements_code, last_instr, function_body, draws_code, argument_terms, group_code, require_code, ranges_code, checks_code, result_value, clauses_of, call_code, start_body, ints, result_kind, sig_of}
 use Rattle.dc_instrument.specs.Writable.{IsLow, IsLowStmt, IsWritable}
@@ -70,9 +71,9 @@ module _ (functions : List Sig) (objects : ℕ) (head : BodyHead) where
   init_acts kind a e h k =
       plain_act functions objects head (Init kind a e) (h.written, k.written) (λ count. both_true (may_mean objects head.regs a) (may_mean objects head.regs e) h.means k.means)
 
-  local_acts : (r : ℕ) → r < head.regs → head.regs < 2 ^ 64 → MayAct functions objects head (LocalZero r 4)
+  local_acts : (r : ℕ) → r < head.regs → head.regs < 2 ^ 64 → MayAct functions objects head (Local r 4 Zero)
   local_acts r room small =
-      plain_act functions objects head (LocalZero r 4) (omega arith, omega arith) (λ count. both_true (nat_lt r head.regs) true (below r head.regs room) refl)
+      plain_act functions objects head (Local r 4 Zero) (omega arith, omega arith) (λ count. both_true (nat_lt r head.regs) true (below r head.regs room) refl)
 
   covers_acts : (name : List ℕ) (site : ℕ) (a : Term) → is_word name ≡ true → site < 10 ^ 64 → MayStand objects head.regs a → MayAct functions objects head (Covers (assigns_name name site) a int_len)
   covers_acts name site a w small h =

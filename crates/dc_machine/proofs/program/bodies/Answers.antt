@@ -1,7 +1,7 @@
 use Rattle.std.proofs.Common.{◌∙◌, ◌<◌, ◌++◌, ◌∷◌, [], sym, ap, map, take, length, arith}
 use Rattle.dc_goto.specs.View.{body_view}
 use Rattle.dc_machine.proofs.Indexes.{index-next}
-use Rattle.dc_machine.proofs.Terms.{mapped-length, mapped-twice}
+use Rattle.dc_machine.proofs.Ends.{mapped-length, mapped-twice}
 use Rattle.dc_machine.proofs.program.bodies.Goals as goal
 
 pub loop-place-preserved : goal.loop-place-preserved

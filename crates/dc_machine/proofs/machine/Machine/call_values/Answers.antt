@@ -14,7 +14,7 @@ returns-then-len-ge1024 g c = λ values e.
     record {
       notes = [];
       world = (now_view c.args.self.now.now []).world;
-      ends = depth-reached (linked_view c.args.p.now) (machine_view (linked_view c.args.p.now).bodies c.args.self.now []) c.args.register c.args.callee.now values c.len.result frames (omega arith);
+      ends = depth-reached (linked_view c.args.p.now) (machine_view (linked_view c.args.p.now).bodies c.args.self.now []) (now_view c.args.self.now.now []) c.args.register c.args.callee.now values c.len.result frames (omega arith);
       none_left = refl;
       not_dry = refl;
       heard = refl;
@@ -23,6 +23,6 @@ returns-then-len-ge1024 g c = λ values e.
 pub returns : goal.returns
 returns g c = λ values e.
     let frames : c.len.result ≡ length (machine_view (linked_view c.args.p.now).bodies c.args.self.now []).frames = omega (arith, frames-count (frame_view (linked_view c.args.p.now).bodies) c.args.self.now.frames.items, c.args.self.now.frames.ok.0, c.len.ensures) in
-    noted-alone AllocError (Did (event.Call c.function_number-function.result)) (λ choices. entered_body (machine_view (linked_view c.args.p.now).bodies c.args.self.now choices) c.args.register c.args.callee.now values (body_of (linked_view c.args.p.now).bodies c.args.callee.now)) _ (machine_view (linked_view c.args.p.now).bodies c.enter_named.new.self) c.in_ok-end.end _ _ c.tell.ensures
-    (λ choices. depth-left (linked_view c.args.p.now) (machine_view (linked_view c.args.p.now).bodies c.args.self.now choices) c.args.register c.args.callee.now values c.len.result c.function_number-function.result frames (omega arith) c.function_number-function.ensures)
+    noted-alone AllocError (Did (event.Call c.function_number-function.result)) (λ choices. entered_body (machine_view (linked_view c.args.p.now).bodies c.args.self.now choices) (now_view c.args.self.now.now choices) c.args.register c.args.callee.now values (body_of (linked_view c.args.p.now).bodies c.args.callee.now)) _ (machine_view (linked_view c.args.p.now).bodies c.enter_named.new.self) c.in_ok-end.end _ _ c.tell.ensures
+    (λ choices. depth-left (linked_view c.args.p.now) (machine_view (linked_view c.args.p.now).bodies c.args.self.now choices) (now_view c.args.self.now.now choices) c.args.register c.args.callee.now values c.len.result c.function_number-function.result frames (omega arith) c.function_number-function.ensures)
     (c.in_ok-end.ensures values _ e)

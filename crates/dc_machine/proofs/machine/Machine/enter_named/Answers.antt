@@ -18,7 +18,7 @@ returns-in_default c = λ values h e.
     let none : body_of (linked_view c.args.p.now).bodies c.args.callee.now ≡ None =
     body-found (linked_view c.args.p.now).bodies c.args.callee.now ∙ ap (option_and_then (slice_get (linked_view c.args.p.now).bodies)) (sym (c.requires.linked.bodies c.args.callee.now) ∙ sym c.find.ensures ∙ c.in_default.is) in
     ends_named running _ _ (end.NoBody c.args.callee.now) (now_view c.args.self.now.now []).world c.no_body.result h c.no_body.ensures refl
-    (entered-none (machine_view (linked_view c.args.p.now).bodies c.args.self.now []) c.args.register c.args.callee.now values (body_of (linked_view c.args.p.now).bodies c.args.callee.now) none) refl
+    (entered-none (machine_view (linked_view c.args.p.now).bodies c.args.self.now []) (now_view c.args.self.now.now []) c.args.register c.args.callee.now values (body_of (linked_view c.args.p.now).bodies c.args.callee.now) none) refl
 
 pub returns-in_default-at : goal.returns-in_default-at
 returns-in_default-at c = λ values h e.
@@ -26,7 +26,7 @@ returns-in_default-at c = λ values h e.
     let there : slice_get (linked_view c.args.p.now).bodies c.in-Some.number ≡ None = slice_get-map body_view c.args.p.now.goto.now.bodies c.in-Some.number ∙ ap (option_map body_view) (sym (c.in_default-at.ensures ∙ ap (λ l. slice_get l c.in-Some.number) c.as_slice.ensures)) in
     let none : body_of (linked_view c.args.p.now).bodies c.args.callee.now ≡ None = body-found (linked_view c.args.p.now).bodies c.args.callee.now ∙ ap (option_and_then (slice_get (linked_view c.args.p.now).bodies)) first ∙ there in
     ends_named running _ _ (end.NoBody c.args.callee.now) (now_view c.args.self.now.now []).world c.no_body-in_default-at.result h c.no_body-in_default-at.ensures refl
-    (entered-none (machine_view (linked_view c.args.p.now).bodies c.args.self.now []) c.args.register c.args.callee.now values (body_of (linked_view c.args.p.now).bodies c.args.callee.now) none) refl
+    (entered-none (machine_view (linked_view c.args.p.now).bodies c.args.self.now []) (now_view c.args.self.now.now []) c.args.register c.args.callee.now values (body_of (linked_view c.args.p.now).bodies c.args.callee.now) none) refl
 
 pub returns : goal.returns
 returns c = λ values h e.
@@ -39,7 +39,7 @@ returns c = λ values h e.
     record {
       notes = [];
       goes = λ rest.
-          entered-some (machine_view (linked_view c.args.p.now).bodies c.args.self.now rest) c.args.register c.args.callee.now values (body_of (linked_view c.args.p.now).bodies c.args.callee.now) (body_view c.in-Some-at.body.now) whole
-          ∙ entered-as (machine_view (linked_view c.args.p.now).bodies c.args.self.now rest) (machine_view (linked_view c.args.p.now).bodies c.enter.new.self rest) c.args.register c.args.callee.now values (linked_view c.args.p.now).bodies c.in-Some.number (body_view c.in-Some-at.body.now) there (some-same _ _ names) (c.in_ok-enter.ensures (linked_view c.args.p.now).bodies values rest e);
+          entered-some (machine_view (linked_view c.args.p.now).bodies c.args.self.now rest) (now_view c.args.self.now.now rest) c.args.register c.args.callee.now values (body_of (linked_view c.args.p.now).bodies c.args.callee.now) (body_view c.in-Some-at.body.now) whole
+          ∙ entered-as (machine_view (linked_view c.args.p.now).bodies c.args.self.now rest) (machine_view (linked_view c.args.p.now).bodies c.enter.new.self rest) (now_view c.args.self.now.now rest) c.args.register c.args.callee.now values (linked_view c.args.p.now).bodies c.in-Some.number (body_view c.in-Some-at.body.now) there (some-same _ _ names) (c.in_ok-enter.ensures (linked_view c.args.p.now).bodies values rest e);
       heard = refl;
     }

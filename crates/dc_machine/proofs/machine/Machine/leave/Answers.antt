@@ -4,7 +4,7 @@ use Rattle.dc_core.specs.Run.{Did}
 use Rattle.dc_machine.specs.View.{now_view, machine_view, frame_view}
 use Rattle.dc_core.specs.World.{left, kill_events}
 use Rattle.dc_machine.proofs.Calls.{no-frames, left-last, left-next, told-return}
-use Rattle.dc_machine.proofs.Terms.{from-end}
+use Rattle.dc_machine.proofs.Ends.{from-end}
 use Rattle.dc_machine.proofs.machine.Machine.leave.Goals as goal
 
 pub returns-in_default : goal.returns-in_default

@@ -14,3 +14,6 @@ returns-in-Goto g c = rw c.in-Goto.is (alone-step running _ _ c.jump.result _ _ 
 
 pub returns-in-IfNot : goal.returns-in-IfNot
 returns-in-IfNot g c = rw c.in-IfNot.is (alone-step running _ _ c.branch-self.result _ _ _ (c.branch-self.ensures (linked_view c.args.p.now) _))
+
+pub returns-in-CallThrough : goal.returns-in-CallThrough
+returns-in-CallThrough g c = rw c.in-CallThrough.is (alone-step running _ _ c.call_through.result _ _ _ (rw (c.as_slice-in-CallThrough.ensures, c.as_slice-in-CallThrough-2.ensures) at c.call_through.ensures))

@@ -1,26 +1,38 @@
-use Rattle.std.proofs.Common.{◌≡◌, [], refl, sym, ◌∙◌, rules}
+use Rattle.std.proofs.Common.{◌≡◌, [], refl, ap, sym, ◌∙◌, rules}
 use Rattle.dc_core.specs.View.{term_view}
-use Rattle.dc_goto.specs.Machine.{act, is_true}
-use Rattle.dc_goto.specs.Program as goto
-use Rattle.dc_world.specs.declared.report.End.TheVariants as end
-use Rattle.dc_machine.specs.Step.{acting}
 use Rattle.dc_machine.specs.View.{now_view}
-use Rattle.dc_machine.proofs.Parts.{ends_named}
-use Rattle.dc_machine.proofs.Acts.{assume-none, assume-failed}
+use Rattle.dc_goto.specs.Acts.{required}
+use Rattle.dc_goto.specs.Values.{is_true}
+use Rattle.dc_machine.proofs.Acts.{ends_undefined}
+use Rattle.dc_machine.proofs.Asking.{given-is, given-some}
+use Rattle.dc_machine.proofs.Going.{then_assume}
 use Rattle.dc_machine.proofs.now.Now.assume.Goals as goal
 
-pub returns-in-None : goal.returns-in-None
-returns-in-None c = λ p h.
-    ends_named acting (λ choices. act p c.args.name.now (goto.Assume (term_view c.args.test.now)) (now_view c.args.self.now choices)) (now_view c.args.self.now) (end.Undefined c.args.name.now) (now_view c.args.self.now []).world c.undefined.result h c.undefined.ensures refl
-    (assume-none p c.args.name.now (term_view c.args.test.now) (now_view c.args.self.now []) (sym c.value.ensures ∙ c.in-None.is)) refl
+pub returns-in_default : goal.returns-in_default
+returns-in_default c = λ p h.
+    ends_undefined c.args.name.now _ _ (now_view c.asked.new.self) _ _ c.undefined.result h
+    (given-is (term_view c.args.test.now) _ (now_view c.args.self.now) (now_view c.asked.new.self) c.args.name.now [] then_assume c.in_ok-z.ensures) c.in_default.is refl c.undefined.ensures
+
+pub returns-then-is_true : goal.returns-then-is_true
+returns-then-is_true c = λ p h.
+    let held : c.is_true.result ≡ is_true c.in-Some.z = search rules in
+    record {
+      notes = [];
+      goes = λ rest.
+          given-some (term_view c.args.test.now) _ c.in-Some.z (now_view c.args.self.now) (now_view c.asked.new.self) c.args.name.now rest then_assume c.in_ok-z.ensures c.in-Some.is
+          ∙ ap (λ held. required held (now_view c.asked.new.self rest)) (sym held ∙ c.if-is_true.true);
+      heard = refl;
+    }
 
 pub returns-else-is_true : goal.returns-else-is_true
 returns-else-is_true c = λ p h.
     let held : c.is_true.result ≡ is_true c.in-Some.z = search rules in
     record {
       notes = [];
-      world = (now_view c.args.self.now []).world;
-      ends = assume-failed p c.args.name.now (term_view c.args.test.now) (now_view c.args.self.now []) c.in-Some.z (sym c.value.ensures ∙ c.in-Some.is) (sym held ∙ c.if-is_true.false);
+      world = (now_view c.asked.new.self []).world;
+      ends =
+          given-some (term_view c.args.test.now) _ c.in-Some.z (now_view c.args.self.now) (now_view c.asked.new.self) c.args.name.now [] then_assume c.in_ok-z.ensures c.in-Some.is
+          ∙ ap (λ held. required held (now_view c.asked.new.self [])) (sym held ∙ c.if-is_true.false);
       none_left = refl;
       not_dry = refl;
       heard = refl;

@@ -1,4 +1,4 @@
-use Rattle.std.proofs.Common.{[], map, reverse, ap, ◌∙◌}
+use Rattle.std.proofs.Common.{map, reverse, ap, ◌∙◌}
 use Rattle.dc_core.specs.Event.{Kill}
 use Rattle.dc_core.specs.Run.{Did}
 use Rattle.dc_machine.specs.View.{now_view}

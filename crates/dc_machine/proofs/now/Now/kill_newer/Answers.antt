@@ -1,9 +1,9 @@
-use Rattle.std.proofs.Common.{◌≡◌, ◌≤◌, [], ◌∷◌, length, map, reverse, refl, sym, ap, ◌∙◌, arith}
+use Rattle.std.proofs.Common.{◌≤◌, length, map, reverse, refl, sym, ap, ◌∙◌, arith}
 use Rattle.std.proofs.lemmas.List.{length-reverse}
 use Rattle.dc_core.specs.Event.{Kill}
 use Rattle.dc_core.specs.Objects.{kill_all}
 use Rattle.dc_core.specs.Run.{Did}
-use Rattle.dc_goto.specs.Machine.{newer, older}
+use Rattle.dc_goto.specs.Acts.{newer}
 use Rattle.dc_world.specs.Log.{hearing}
 use Rattle.dc_world.specs.Told.{told}
 use Rattle.dc_machine.proofs.Newest.{newest, newer-few, older-few}
@@ -23,6 +23,7 @@ loop-object-preserved g c =
       kept = sym parts.1 ∙ c.loop-object.invariant.kept;
       regs = c.loop-object.invariant.regs;
       sets = c.loop-object.invariant.sets;
+      seen = c.loop-object.invariant.seen;
     }
 
 pub returns-clause-left : goal.returns-clause-left
@@ -32,7 +33,7 @@ returns-clause-left g c = λ choices.
     let few : length (reverse all) ≤ first = omega (arith, c.pop_newer.ensures.few c.in_default.is, length-reverse all) in
     let memory = sym (ap (λ l. kill_all l c.loop-object.self.memory) (newer-few first (reverse all) few)) ∙ c.loop-object.invariant.memory in
     let locals = ap reverse (c.pop_newer.ensures.kept c.in_default.is) ∙ sym (older-few first (reverse all) few) ∙ c.loop-object.invariant.kept in
-    rw (c.loop-object.invariant.regs, c.loop-object.invariant.sets, memory, locals) refl
+    rw (c.loop-object.invariant.regs, c.loop-object.invariant.sets, c.loop-object.invariant.seen, memory, locals) refl
 
 pub returns-clause-told : goal.returns-clause-told
 returns-clause-told g c =

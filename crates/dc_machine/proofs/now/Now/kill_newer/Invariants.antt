@@ -2,7 +2,7 @@ use Rattle.std.proofs.Common.{◌≡◌, map, reverse, vec_len}
 use Rattle.dc_core.specs.Event.{Kill}
 use Rattle.dc_core.specs.Objects.{kill_all}
 use Rattle.dc_core.specs.Run.{Did}
-use Rattle.dc_goto.specs.Machine.{newer, older}
+use Rattle.dc_goto.specs.Acts.{newer, older}
 use Rattle.dc_world.specs.Log.{hearing}
 use Rattle.dc_world.specs.Told.{told}
 use Rattle.dc_machine.proofs.now.Now.kill_newer.Given as goal
@@ -19,4 +19,5 @@ invariant-loop-object g l = record {
   kept : older l.fn.first (reverse l.self.locals.items) ≡ older l.fn.first (reverse l.initial.self.locals.items);
   regs : l.self.regs ≡ l.initial.self.regs;
   sets : l.self.sets ≡ l.initial.self.sets;
+  seen : l.self.seen ≡ l.initial.self.seen;
 }

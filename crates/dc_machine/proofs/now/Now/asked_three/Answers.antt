@@ -1,0 +1,9 @@
+use Rattle.dc_core.specs.View.{term_view}
+use Rattle.dc_machine.specs.View.{now_view}
+use Rattle.dc_machine.proofs.Asking.{asked-three}
+use Rattle.dc_machine.proofs.now.Now.asked_three.Goals as goal
+
+pub returns : goal.returns
+returns c =
+    asked-three (term_view c.args.a.now) (term_view c.args.b.now) (term_view c.args.c.now) _ _ _ (now_view c.args.self.now) (now_view c.asked.new.self) (now_view c.asked-2.new.self) (now_view c.asked-3.new.self)
+    c.in_ok-first.ensures c.in_ok-second.ensures c.in_ok-third.ensures

@@ -1,0 +1,5 @@
+pub mod Sixty_four
+pub mod Listed
+pub mod Moves
+pub mod Steps
+pub mod Variants

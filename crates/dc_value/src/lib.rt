@@ -1,0 +1,16 @@
+//! The values of the expressions of the instruction text.
+#![tactic(auto)]
+
+mod asked;
+mod no_value;
+mod objects;
+mod operators;
+mod pointers;
+mod quantifiers;
+mod ranges;
+mod surroundings;
+mod term;
+
+pub use objects::{is_heap_start, points_to_data, start};
+pub use operators::{holds, is_true};
+pub use surroundings::Surroundings;
