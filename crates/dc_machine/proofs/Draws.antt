@@ -86,6 +86,16 @@ drawn_cut draws state go s s' h h' straight d = record {
   heard = d.heard;
 }
 
+-- the value was drawn, and memory was wanting behind it
+pub broke_behind : {A : Type 0} (draws : Draws A) (v : A) (s s' : Supply) (h h' : Hearing) → HasDrawn draws v s s' h h' → BrokeOff draws s s' h h'
+broke_behind draws v s s' h h' d = record {
+  numbers = d.numbers;
+  events = d.events;
+  front = λ rest. ([], ap happened (d.drew rest) ∙ sym (append-nil d.events));
+  taken = d.taken;
+  heard = d.heard;
+}
+
 -- the value was drawn, and what follows is a step
 pub drawn_step : {A E : Type 0} (draws : Draws A) (state after : List ℕ → Now) (go : A → Now → Then) (v : A) (r : Result (Option End) E) (s t u : Supply) (h i j : Hearing)
     → IsOpen state → AreStraight go → HasDrawn draws v s t h i → IsStep acting (λ choices. go v (state choices)) after r t u i j → IsStep acting (λ choices. drawn (draws choices) (state choices) go) after r s u h j

@@ -10,7 +10,7 @@ use Rattle.dc_machine.specs.declared.machine.Machine.{Machine}
 abbrev pub now_view : Now → List ℕ → acts.Now
 now_view s choices =
     record {
-      regs = s.regs.items;
+      regs = s.regs;
       sets = s.sets;
       seen = reverse s.seen.items;
       world = record { memory = s.memory; choices = choices; locals = reverse s.locals.items };
@@ -31,7 +31,7 @@ frame_view bodies f =
       name = name_at (slice_get bodies f.body);
       code = code_at (slice_get bodies f.body);
       place = f.place;
-      regs = f.regs.items;
+      regs = f.regs;
       locals = reverse f.locals.items;
       result = f.result;
     }

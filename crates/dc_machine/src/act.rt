@@ -49,7 +49,7 @@ impl Now {
         match held {
             None => undefined(alloc, name),
             Some(_) => {
-                self.put(register, held);
+                self.put(register, held)?;
                 Ok(None)
             }
         }
@@ -61,7 +61,7 @@ impl Now {
             IsAlone acting (λ choices. act p name (plain.Keep register (term_view value.now)) (now_view self.old choices)) (now_view self.new) result h h }
     {
         let held = self.asked(value)?;
-        self.put(register, held);
+        self.put(register, held)?;
         Ok(None)
     }
 

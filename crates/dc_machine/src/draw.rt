@@ -106,7 +106,7 @@ impl Now {
         match held {
             None => Ok(Some(End::ChoicesEnded)),
             Some(_) => {
-                self.put(register, held);
+                self.put(register, held)?;
                 Ok(None)
             }
         }

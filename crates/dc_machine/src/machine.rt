@@ -24,7 +24,7 @@ use dc_goto::{Body, Instr};
 use dc_memory::Store;
 use dc_num::bits;
 use dc_text::Event;
-use dc_value::is_true;
+use dc_value::{Registers, is_true};
 use dc_world::{End, Log, Storage, Which, add_function, add_zeros};
 use dc_writeset::WriteSets;
 use sqlite_items::at;
@@ -36,9 +36,21 @@ use std::mem;
 pub struct Frame {
     pub body: usize,
     pub place: usize,
-    pub regs: Vec<Option<i128>>,
+    pub regs: Registers,
     pub locals: Vec<u64>,
     pub result: Option<u64>,
+}
+
+impl Frame {
+    // The register for the result takes a value.
+    fn take(&mut self, value: Option<i128>) -> Result<(), AllocError>
+        ensures { OnOk result (self.new ≡ record self.old { regs = with_result self.old.result value self.old.regs }) }
+    {
+        if let (Some(register), Some(_)) = (self.result, value) {
+            self.regs.put(register, value)?;
+        }
+        Ok(())
+    }
 }
 
 /// The running body's number, the place of the next instruction, the callers (innermost last), and what instructions
@@ -49,19 +61,6 @@ pub struct Machine {
     pub place: usize,
     pub frames: Vec<Frame>,
     pub now: Now,
-}
-
-// The first registers of a body: arguments, and the others are 0.
-fn first_registers(
-    body: &Body,
-    mut arguments: Vec<Option<i128>>,
-) -> Result<Vec<Option<i128>>, AllocError>
-    ensures { IfOk result (λ regs. regs.items ≡ arguments.items ++ replicate (body.now.regs - length arguments.items) (Some (pos 0))) }
-{
-    if body.regs > arguments.len() as u64 {
-        arguments.resize(body.regs as usize, Some(0))?;
-    }
-    Ok(arguments)
 }
 
 // That many functions behind the objects of a memory.
@@ -115,7 +114,7 @@ impl Machine {
             }) }
     {
         let memory = first_memory(alloc, p)?;
-        let regs = first_registers(body, Vec::new(alloc))?;
+        let regs = Registers::new(Vec::new(alloc), body.regs);
         Ok(Machine {
             body: number,
             place: 0,
@@ -155,7 +154,7 @@ impl Machine {
             }) }
     {
         self.frames.try_reserve(1)?;
-        let regs = first_registers(body, arguments)?;
+        let regs = Registers::new(arguments, body.regs);
         let frame = Frame {
             body: self.body,
             place: self.place + 1,
@@ -322,8 +321,8 @@ impl Machine {
         }
     }
 
-    // Back in a caller, with a value or none for its register.
-    fn resume(&mut self, frame: Frame, value: Option<i128>)
+    // Back in a caller.
+    fn resume(&mut self, frame: Frame)
         ensures { (bodies : List plain.Body) (choices : List ℕ) →
             machine_view bodies self.new choices
             ≡ record {
@@ -333,7 +332,7 @@ impl Machine {
               frames = (machine_view bodies self.old choices).frames;
               now =
                   record (now_view self.old.now choices) {
-                    regs = with_result frame.result value frame.regs.items;
+                    regs = frame.regs;
                     world = record (now_view self.old.now choices).world { locals = reverse frame.locals.items };
                   };
             } }
@@ -343,15 +342,12 @@ impl Machine {
             place,
             regs,
             locals,
-            result: register,
+            result: _,
         } = frame;
         self.body = body;
         self.place = place;
         self.now.regs = regs;
         self.now.locals = locals;
-        if let (Some(register), Some(_)) = (register, value) {
-            self.now.put(register, value);
-        }
     }
 
     // The running body is left with a value or none.
@@ -366,12 +362,14 @@ impl Machine {
             (hearing (W.records watch.old) (W.parts watch.old) log.old)
             (hearing (W.records watch.new) (W.parts watch.new) log.new) }
     {
-        self.now.kill_locals(watch, log);
-        let Some(frame) = self.frames.pop() else {
+        let Some(mut frame) = self.frames.pop() else {
+            self.now.kill_locals(watch, log);
             return Ok(Some(End::Returned(value)));
         };
+        frame.take(value)?;
+        self.now.kill_locals(watch, log);
         log.tell(watch, Event::Return);
-        self.resume(frame, value);
+        self.resume(frame);
         Ok(None)
     }
 

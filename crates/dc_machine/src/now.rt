@@ -1,5 +1,5 @@
 // What instructions read and change.
-ghost use Rattle.std.specs.Prelude.{◌≡◌, List, ℕ, IfOk, map, option_map};
+ghost use Rattle.std.specs.Prelude.{◌≡◌, List, ℕ, IfOk, OnOk, map, option_map};
 ghost use Rattle.dc_core.specs.World.{is_full as is_full_world};
 ghost use Rattle.dc_core.specs.View.{term_view};
 ghost use Rattle.dc_goto.specs.Acts.{with_register};
@@ -8,7 +8,7 @@ ghost use Rattle.dc_machine.specs.View.{now_view};
 
 use dc_core::Term;
 use dc_memory::Store;
-use dc_value::Surroundings;
+use dc_value::{Registers, Surroundings};
 use dc_writeset::WriteSets;
 use std::alloc::{AllocError, Global};
 
@@ -16,7 +16,7 @@ use std::alloc::{AllocError, Global};
 /// last), the memory, and the objects of the running function (newest last).
 #[derive(Drop)]
 pub struct Now {
-    pub regs: Vec<Option<i128>>,
+    pub regs: Registers,
     pub sets: WriteSets,
     pub seen: Vec<u64>,
     pub memory: Store,
@@ -30,7 +30,7 @@ impl Now {
     {
         let mut variables = Vec::new(*self.seen.allocator());
         let surroundings = Surroundings {
-            regs: self.regs.as_slice(),
+            regs: &self.regs,
             memory: &self.memory,
             sets: &self.sets,
         };
@@ -116,12 +116,10 @@ impl Now {
     }
 
     /// The register takes what is held, where there is such a register.
-    pub fn put(&mut self, register: u64, held: Option<i128>)
-        ensures { (choices : List ℕ) → now_view self.new choices ≡ with_register register held (now_view self.old choices) }
+    pub fn put(&mut self, register: u64, held: Option<i128>) -> Result<(), AllocError>
+        ensures { OnOk result ((choices : List ℕ) → now_view self.new choices ≡ with_register register held (now_view self.old choices)) }
     {
-        if register < self.regs.len() as u64 {
-            self.regs[register as usize] = held;
-        }
+        self.regs.put(register, held)
     }
 
     /// Whether no further object may be created.

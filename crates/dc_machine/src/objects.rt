@@ -126,7 +126,7 @@ impl Now {
             return Ok(Some(End::ChoicesEnded));
         };
         self.locals.push_reserved(number);
-        self.put(register, Some(start(number)));
+        self.put(register, Some(start(number)))?;
         Ok(None)
     }
 
@@ -167,7 +167,7 @@ impl Now {
         let Some(number) = made else {
             return Ok(Some(End::ChoicesEnded));
         };
-        self.put(register, Some(start(number)));
+        self.put(register, Some(start(number)))?;
         Ok(None)
     }
 
@@ -190,13 +190,13 @@ impl Now {
             (hearing (W.records watch.new) (W.parts watch.new) log.new) }
     {
         if size > 16777216 {
-            self.put(register, Some(0));
+            self.put(register, Some(0))?;
             return Ok(None);
         }
         match draw(2, chooser, used, watch, log)? {
             None => Ok(Some(End::ChoicesEnded)),
             Some(0) => {
-                self.put(register, Some(0));
+                self.put(register, Some(0))?;
                 Ok(None)
             }
             Some(_) => self.create_heap(

@@ -6,6 +6,8 @@ mod beyond;
 #[cfg(test)]
 mod build;
 #[cfg(test)]
+mod far;
+#[cfg(test)]
 mod jumps;
 #[cfg(test)]
 mod kills;

@@ -1,5 +1,6 @@
 pub mod Sixty_four
 pub mod Listed
 pub mod Moves
+pub mod Padded
 pub mod Steps
 pub mod Variants

@@ -8,9 +8,11 @@ mod operators;
 mod pointers;
 mod quantifiers;
 mod ranges;
+mod registers;
 mod surroundings;
 mod term;
 
 pub use objects::{is_heap_start, points_to_data, start};
 pub use operators::{holds, is_true};
+pub use registers::Registers;
 pub use surroundings::Surroundings;

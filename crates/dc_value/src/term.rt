@@ -37,7 +37,7 @@ impl<'a> Surroundings<'a> {
     {
         match term {
             Term::Constant(_, z) => Ok(*z),
-            Term::Register(number) => defined(self.register(*number)),
+            Term::Register(number) => defined(self.regs.held(*number)),
             Term::Variable(nesting) => defined(variable(vars, *nesting)),
             Term::Object(number) => Ok(start(*number)),
             Term::Load(kind, place) => {

@@ -26,7 +26,7 @@ returns g c = λ bodies.
     record {
       notes = map Did (kill_events (now_view c.args.self.now.now []).world ++ event.Return ∷ []);
       goes = λ rest.
-          left-next (now_view c.args.self.now.now rest) (now_view c.kill_locals.new.self rest) c.args.value (frame_view bodies c.in-Some.frame) (reverse (map (frame_view bodies) c.args.self.now.frames.items)) (reverse (map (frame_view bodies) c.pop.new.self.items)) (machine_view bodies c.resume.new.self rest)
-          frames (c.kill_locals.ensures.left rest) (c.resume.ensures bodies rest);
-      heard = told-return (kill_events (now_view c.args.self.now.now []).world) _ _ _ c.kill_locals.ensures.told c.tell.ensures;
+          left-next (now_view c.args.self.now.now rest) (now_view c.kill_locals-2.new.self rest) c.args.value (frame_view bodies c.in-Some.frame) (reverse (map (frame_view bodies) c.args.self.now.frames.items)) (reverse (map (frame_view bodies) c.pop.new.self.items)) (machine_view bodies c.resume.new.self rest)
+          frames (c.kill_locals-2.ensures.left rest) (rw c.in_ok-take.ensures at c.resume.ensures bodies rest);
+      heard = told-return (kill_events (now_view c.args.self.now.now []).world) _ _ _ c.kill_locals-2.ensures.told c.tell.ensures;
     }

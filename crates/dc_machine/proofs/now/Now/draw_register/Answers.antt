@@ -17,7 +17,7 @@ pub returns-in-None : goal.returns-in-None
 returns-in-None g c = λ p name.
     drawn_ends (draw_value c.args.kind) (now_view c.args.self.now) (then_set c.args.register) _ _ _ _ (rw c.in-None.is at c.in_ok-held.ensures.drawn)
 
-pub returns-in-Some : goal.returns-in-Some
-returns-in-Some g c = λ p name.
+pub returns-in_ok-put-in-Some : goal.returns-in_ok-put-in-Some
+returns-in_ok-put-in-Some g c = λ p name.
     drawn_goes (draw_value c.args.kind) (now_view c.args.self.now) (now_view c.put.new.self) (then_set c.args.register) _ _ _ _ _ (λ choices rest. refl)
-    (λ rest. ap (Next []) (sym (c.put.ensures rest ∙ ap (λ held. with_register c.args.register held (now_view c.args.self.now rest)) c.in-Some.is))) (rw c.in-Some.is at c.in_ok-held.ensures.drawn)
+    (λ rest. ap (Next []) (sym (c.in_ok-put-in-Some.ensures rest ∙ ap (λ held. with_register c.args.register held (now_view c.args.self.now rest)) c.in-Some.is))) (rw c.in-Some.is at c.in_ok-held.ensures.drawn)
