@@ -14,6 +14,8 @@ mod frames;
 #[cfg(test)]
 mod instructions;
 #[cfg(test)]
+mod lines;
+#[cfg(test)]
 mod refused;
 #[cfg(test)]
 mod texts;

@@ -41,13 +41,7 @@ impl Registers {
     {
         match at(self.written.as_slice(), number as usize) {
             Some(held) => *held,
-            None => {
-                if number < self.count {
-                    Some(0)
-                } else {
-                    None
-                }
-            }
+            None => { if number < self.count { Some(0) } else { None } }
         }
     }
 

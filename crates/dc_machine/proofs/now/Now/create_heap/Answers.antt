@@ -26,7 +26,7 @@ returns g c =
     (λ rest. heap-put c.args.register c.in-Some.number _ c.start.result _ _ (rw c.in-Some.is at c.in_ok-made.ensures.small) (rw c.in-Some.is at c.in_ok-made.ensures.number) c.start.ensures (c.in_ok-put.ensures rest)) (rw c.in-Some.is at c.in_ok-made.ensures.drawn)
 
 pub returns-in_err-put : goal.returns-in_err-put
-returns-in_err-put g c = 
+returns-in_err-put g c =
     step_cut acting _ _ c.from_residual-in_err-put.result _ _ _ _ c.from_residual-in_err-put.ensures.0
     (making_cut Heap c.args.bytes c.args.size c.args.self.now c.is_full.result (then_heap c.args.register) _ _ _ _ c.is_full.ensures c.if-is_full.false (λ object t notes. refl)
     (broke_behind (created Heap c.args.bytes c.args.size c.args.self.now.memory) c.create.new.memory _ _ _ _ (rw c.in-Some.is at c.in_ok-made.ensures.drawn)))
