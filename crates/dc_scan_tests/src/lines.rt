@@ -4,23 +4,54 @@ use crate::examples::SET;
 use std::alloc::{AllocError, Global};
 use std::test::Fail;
 
-// The text with other lines.
-fn joined(alloc: Global, lines: &[&str]) -> Result<Vec<u8>, AllocError> {
+// Adds a line to a text.
+fn add(text: &mut Vec<u8>, line: &[u8]) -> Result<(), AllocError> {
+    text.extend_from_slice(line)?;
+    text.extend_from_slice(b"\n")
+}
+
+// The text with the line of this number, counted from 0 on, twice.
+fn doubled(alloc: Global, number: usize) -> Result<Vec<u8>, AllocError> {
     let mut text = Vec::new(alloc);
-    for line in lines {
-        text.extend_from_slice(line.as_bytes())?;
-        text.extend_from_slice(b"\n")?;
+    for (at, line) in SET.lines().enumerate() {
+        add(&mut text, line.as_bytes())?;
+        if at == number {
+            add(&mut text, line.as_bytes())?;
+        }
     }
     Ok(text)
 }
 
-// The text's lines.
-fn lines(alloc: Global) -> Result<Vec<&'static str>, AllocError> {
-    let mut lines = Vec::new(alloc);
-    for line in SET.lines() {
-        lines.push(line)?;
+// The text with other lines in place of the one of this number.
+fn replaced(alloc: Global, number: usize, others: &[&str]) -> Result<Vec<u8>, AllocError> {
+    let mut text = Vec::new(alloc);
+    for (at, line) in SET.lines().enumerate() {
+        if at == number {
+            for other in others {
+                add(&mut text, other.as_bytes())?;
+            }
+        } else {
+            add(&mut text, line.as_bytes())?;
+        }
     }
-    Ok(lines)
+    Ok(text)
+}
+
+// The text with the line of this number behind the next one.
+fn exchanged(alloc: Global, number: usize) -> Result<Vec<u8>, AllocError> {
+    let mut text = Vec::new(alloc);
+    let mut moved: &[u8] = &[];
+    for (at, line) in SET.lines().enumerate() {
+        if at == number {
+            moved = line.as_bytes();
+        } else {
+            add(&mut text, line.as_bytes())?;
+            if Some(at) == number.checked_add(1) {
+                add(&mut text, moved)?;
+            }
+        }
+    }
+    Ok(text)
 }
 
 // What is answered where a line of the text is doubled, where it is dropped, and where it and the next are exchanged.
@@ -53,34 +84,27 @@ const LINES: [(Answer, Answer, Answer); 25] = [
 ];
 
 #[test]
-fn doubled(rt: HostRuntime) -> Result<(), Fail> {
+fn doubled_lines(rt: HostRuntime) -> Result<(), Fail> {
     for (at, (wanted, _, _)) in LINES.iter().enumerate() {
-        let mut changed = lines(rt.alloc())?;
-        let line = changed[at];
-        changed.insert(at, line)?;
-        let text = joined(rt.alloc(), changed.as_slice())?;
+        let text = doubled(rt.alloc(), at)?;
         assert_eq!(rt; answer_to(rt.alloc(), text.as_slice())?, *wanted, "{at}");
     }
     Ok(())
 }
 
 #[test]
-fn dropped(rt: HostRuntime) -> Result<(), Fail> {
+fn dropped_lines(rt: HostRuntime) -> Result<(), Fail> {
     for (at, (_, wanted, _)) in LINES.iter().enumerate() {
-        let mut changed = lines(rt.alloc())?;
-        changed.remove(at);
-        let text = joined(rt.alloc(), changed.as_slice())?;
+        let text = replaced(rt.alloc(), at, &[])?;
         assert_eq!(rt; answer_to(rt.alloc(), text.as_slice())?, *wanted, "{at}");
     }
     Ok(())
 }
 
 #[test]
-fn exchanged(rt: HostRuntime) -> Result<(), Fail> {
+fn exchanged_lines(rt: HostRuntime) -> Result<(), Fail> {
     for (at, (_, _, wanted)) in LINES.iter().enumerate().take(24) {
-        let mut changed = lines(rt.alloc())?;
-        changed.swap(at, at + 1);
-        let text = joined(rt.alloc(), changed.as_slice())?;
+        let text = exchanged(rt.alloc(), at)?;
         assert_eq!(rt; answer_to(rt.alloc(), text.as_slice())?, *wanted, "{at}");
     }
     Ok(())
@@ -135,11 +159,9 @@ const CHANGED: [(usize, &str, Answer); 44] = [
 ];
 
 #[test]
-fn changed(rt: HostRuntime) -> Result<(), Fail> {
+fn changed_lines(rt: HostRuntime) -> Result<(), Fail> {
     for (number, line, wanted) in &CHANGED {
-        let mut changed = lines(rt.alloc())?;
-        changed[*number - 1] = *line;
-        let text = joined(rt.alloc(), changed.as_slice())?;
+        let text = replaced(rt.alloc(), number.saturating_sub(1), &[*line])?;
         assert_eq!(rt; answer_to(rt.alloc(), text.as_slice())?, *wanted, "{line}");
     }
     Ok(())
