@@ -10,3 +10,4 @@ pub mod Longer
 pub mod Final
 pub mod Newest
 pub mod Listed
+pub mod Overwriting

@@ -4,3 +4,4 @@ pub mod Asking
 pub mod Index
 pub mod Linked
 pub mod Creating
+pub mod Over

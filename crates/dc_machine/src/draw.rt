@@ -9,17 +9,17 @@ ghost use Rattle.dc_world.specs.Told.{supply};
 ghost use Rattle.dc_world.specs.Log.{hearing};
 
 use crate::now::Now;
+use crate::over::draw_all_over;
 use dc_choice::{Chooser, Watch};
 use dc_core::NumKind;
 use dc_goto::Sig;
-use dc_world::{End, Log, draw_value, rewrite_all, static_objects, with_new, with_outside};
+use dc_world::{End, Log, draw_value, with_new, with_outside};
 use std::alloc::{AllocError, Global};
 
 impl Now {
     /// Draws the bytes of all variables of file scope, which stand behind the functions.
     pub fn draw_statics<C: Chooser, W: Watch>(
         &mut self,
-        alloc: Global,
         functions: &[Sig],
         sizes: &[u64],
         chooser: &mut C,
@@ -34,10 +34,11 @@ impl Now {
             (hearing (W.records watch.old) (W.parts watch.old) log.old)
             (hearing (W.records watch.new) (W.parts watch.new) log.new) }
     {
-        let Some(objects) = static_objects(alloc, sizes, chooser, used, watch, log)? else {
+        let count = functions.len();
+        let drawn = draw_all_over(&mut self.memory, count, sizes, chooser, used, watch, log)?;
+        let Some(()) = drawn else {
             return Ok(Some(End::ChoicesEnded));
         };
-        rewrite_all(&mut self.memory, functions.len(), objects.as_slice());
         Ok(None)
     }
 

@@ -13,12 +13,13 @@ ghost use Rattle.dc_world.specs.Log.{hearing};
 ghost use Rattle.dc_writeset.specs.Sets.{innermost, ranges_of};
 
 use crate::now::Now;
+use crate::over::draw_over;
 use dc_choice::{Chooser, Watch};
 use dc_memory::Store;
 use dc_text::Event;
-use dc_world::{End, Log, draw, draw_bytes, let_die, rewrite};
+use dc_world::{End, Log, draw, let_die};
 use dc_writeset::WriteSets;
-use std::alloc::{AllocError, Global};
+use std::alloc::AllocError;
 
 // Whether the object of the number lives.
 fn is_live(memory: &Store, object: u64) -> bool
@@ -39,7 +40,6 @@ fn dies(memory: &Store, object: u64, number: u64) -> bool
 
 // Draws bytes of a live object; one that doesn't live is passed over.
 fn havoc_range<C: Chooser, W: Watch>(
-    alloc: Global,
     memory: &mut Store,
     object: u64,
     from: u64,
@@ -58,16 +58,11 @@ fn havoc_range<C: Chooser, W: Watch>(
     if !is_live(memory, object) {
         return Ok(Some(()));
     }
-    let Some(bytes) = draw_bytes(alloc, len, chooser, used, watch, log)? else {
-        return Ok(None);
-    };
-    rewrite(memory, object, from, bytes.as_slice());
-    Ok(Some(()))
+    draw_over(memory, object, from, len, chooser, used, watch, log)
 }
 
 // Draws the bytes of the innermost set's ranges, in their order.
 fn havoc_ranges<C: Chooser, W: Watch>(
-    alloc: Global,
     memory: &mut Store,
     sets: &WriteSets,
     chooser: &mut C,
@@ -85,7 +80,7 @@ fn havoc_ranges<C: Chooser, W: Watch>(
         let Some((object, from, len)) = sets.range_at(at) else {
             return Ok(Some(()));
         };
-        let drawn = havoc_range(alloc, memory, object, from, len, chooser, used, watch, log)?;
+        let drawn = havoc_range(memory, object, from, len, chooser, used, watch, log)?;
         let Some(()) = drawn else {
             return Ok(None);
         };
@@ -97,7 +92,6 @@ impl Now {
     /// Draws the bytes of the innermost set's ranges, in their order.
     pub fn havoc<C: Chooser, W: Watch>(
         &mut self,
-        alloc: Global,
         chooser: &mut C,
         used: &mut Vec<u64>,
         watch: &mut W,
@@ -110,15 +104,7 @@ impl Now {
             (hearing (W.records watch.old) (W.parts watch.old) log.old)
             (hearing (W.records watch.new) (W.parts watch.new) log.new) }
     {
-        let drawn = havoc_ranges(
-            alloc,
-            &mut self.memory,
-            &self.sets,
-            chooser,
-            used,
-            watch,
-            log,
-        )?;
+        let drawn = havoc_ranges(&mut self.memory, &self.sets, chooser, used, watch, log)?;
         let Some(()) = drawn else {
             return Ok(Some(End::ChoicesEnded));
         };

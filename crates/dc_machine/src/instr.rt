@@ -79,10 +79,9 @@ impl Now {
             }
             Instr::Inside(check, tag) => self.inside(alloc, check.as_slice(), *tag, watch, log),
             Instr::Seen => self.forget_seen(),
-            Instr::Havoc => self.havoc(alloc, chooser, used, watch, log),
+            Instr::Havoc => self.havoc(chooser, used, watch, log),
             Instr::Frees => self.kill_frees(chooser, used, watch, log),
             Instr::Statics => self.draw_statics(
-                alloc,
                 p.goto.functions.as_slice(),
                 p.sizes.as_slice(),
                 chooser,

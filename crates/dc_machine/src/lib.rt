@@ -10,6 +10,7 @@ mod kills;
 mod machine;
 mod now;
 mod objects;
+mod over;
 mod program;
 mod run;
 mod sets;
