@@ -3,4 +3,3 @@ pub mod Listed
 pub mod Moves
 pub mod Padded
 pub mod Steps
-pub mod Variants

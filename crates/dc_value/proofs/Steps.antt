@@ -36,19 +36,19 @@ two_defined first second f x y value result before mid after d e v a =
     answers_defined (first >>= λ x. second >>= λ y. have (f x y)) value result before after a (rw (d, e, v) refl)
 
 -- what is left are the turns of a quantifier
-turns_same : (s : Surroundings) (vars vars' : List ℤ) (q : Quantifier) (body body' : Term) (low high low' high' : ℤ) (seen : List ℕ) → vars' ≡ vars → body' ≡ body → low' ≡ low → high' ≡ high
-    → turns q (λ i. term_value s (vars ++ i ∷ []) body) (natural (high -ℤ low)) low seen ≡ turns q (λ i. term_value s (vars' ++ i ∷ []) body') (natural (high' -ℤ low')) low' seen
-turns_same s vars vars' q body body' low high low' high' seen v b l h = rw (v, b, l, h) refl
+turns_same : (s : Surroundings) (vars vars' : List ℤ) (q : Quantifier) (body : Term) (low high low' high' : ℤ) (seen : List ℕ) → vars' ≡ vars → low' ≡ low → high' ≡ high
+    → turns q (λ i. term_value s (vars ++ i ∷ []) body) (natural (high -ℤ low)) low seen ≡ turns q (λ i. term_value s (vars' ++ i ∷ []) body) (natural (high' -ℤ low')) low' seen
+turns_same s vars vars' q body low high low' high' seen v l h = rw (v, l, h) refl
 
-pub quantified_asked : (s : Surroundings) (vars vars' : List ℤ) (q : Quantifier) (d : ℕ) (kind : NumKind) (first second body body' : Term) (low high low' high' : ℤ) (result : Result ℤ NoValue) (before mid after last : List ℕ)
+pub quantified_asked : (s : Surroundings) (vars vars' : List ℤ) (q : Quantifier) (d : ℕ) (kind : NumKind) (first second body : Term) (low high low' high' : ℤ) (result : Result ℤ NoValue) (before mid after last : List ℕ)
     → term_value s vars first (reverse before) ≡ record { value = Some low; seen = reverse mid } → term_value s vars second (reverse mid) ≡ record { value = Some high; seen = reverse after }
-    → vars' ≡ vars → body' ≡ body → low' ≡ converted kind low → high' ≡ converted kind high → nat_le (natural (high' -ℤ low')) turn_limit ≡ true
-    → Answers (turns q (λ i. term_value s (vars' ++ i ∷ []) body') (natural (high' -ℤ low')) low') result after last
+    → vars' ≡ vars → low' ≡ converted kind low → high' ≡ converted kind high → nat_le (natural (high' -ℤ low')) turn_limit ≡ true
+    → Answers (turns q (λ i. term_value s (vars' ++ i ∷ []) body) (natural (high' -ℤ low')) low') result after last
     → Answers (term_value s vars (Quantified q d kind first second body)) result before last
-quantified_asked s vars vars' q d kind first second body body' low high low' high' result before mid after last e f v b l h few a =
+quantified_asked s vars vars' q d kind first second body low high low' high' result before mid after last e f v l h few a =
     let within : nat_le (natural (converted kind high -ℤ converted kind low)) turn_limit ≡ true = rw (l, h) at few in
-    answers_last (term_value s vars (Quantified q d kind first second body)) (turns q (λ i. term_value s (vars' ++ i ∷ []) body') (natural (high' -ℤ low')) low') result before after last
-    (rw (e, f, within) (turns_same s vars vars' q body body' (converted kind low) (converted kind high) low' high' (reverse after) v b l h)) a
+    answers_last (term_value s vars (Quantified q d kind first second body)) (turns q (λ i. term_value s (vars' ++ i ∷ []) body) (natural (high' -ℤ low')) low') result before after last
+    (rw (e, f, within) (turns_same s vars vars' q body (converted kind low) (converted kind high) low' high' (reverse after) v l h)) a
 
 natural-pred : (d e : ℤ) → pos 0 <ℤ d → e ≡ d -ℤ pos 1 → natural d ≡ suc (natural e)
 natural-pred (pos zero) e h s = absurd (omega (arith, ints, h))

@@ -4,7 +4,9 @@
 mod asked;
 mod no_value;
 mod objects;
+mod operations;
 mod operators;
+mod places;
 mod pointers;
 mod quantifiers;
 mod ranges;
