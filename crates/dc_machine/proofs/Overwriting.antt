@@ -56,6 +56,7 @@ over-written number from value m events (Drew values rest more) =
     ∙ ap (λ memory. Drew memory rest (events ++ (more ++ []))) (changed-first number from value values m)
 over-written number from value m events (Dry more) = refl
 
+-- the first byte, and then the others
 pub over-more : (number from next len rest : ℕ) (m : Memory) → next ≡ suc from → len ≡ suc rest → (choices : List ℕ)
     → overwritten number from len m choices ≡ (draw 256 >>= λ byte. overwritten number next rest (changed number (with_bytes from (byte ∷ [])) m)) choices
 over-more number from next len rest m e f [] = rw f refl
@@ -83,6 +84,7 @@ statics-first number sizes m (Dry events) = refl
 pub statics-start : (number first : ℕ) (sizes : List ℕ) (m : Memory) → first ≡ number → (choices : List ℕ) → statics_overwritten number sizes m choices ≡ statics_overwritten first sizes m choices
 statics-start number first sizes m e choices = rw e refl
 
+-- the first variable, and then the others
 pub statics-over : (number next k : ℕ) (sizes : List ℕ) (m : Memory) → next ≡ suc number → k < length sizes → (choices : List ℕ)
     → statics_overwritten number (drop k sizes) m choices ≡ (overwritten number 0 (get_or sizes k 0) m >>= statics_overwritten next (drop (k + 1) sizes)) choices
 statics-over number next k sizes m e h choices = rw (e, add-one, drop-cons sizes k 0 h) (statics-first number (drop (suc k) sizes) m (draw_bytes (get_or sizes k 0) choices))
